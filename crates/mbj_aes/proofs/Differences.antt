@@ -3,7 +3,7 @@ use Rattle.std.proofs.Common.{◌≡◌, ◌↔◌, ℕ, List, ◌∷◌, bit_or
 use Rattle.std.specs.Int.Bits.{or_add_and, or_zero_l, xor_add_and, xor_self}
 use Rattle.std.proofs.lemmas.Nat.{and_le_l, and_le_r}
 
--- where no bit is set in either of two numbers, none is in each
+-- if no bit is set in either of two numbers, none is in each
 no_bits : (a b : ℕ) → bit_or a b ≡ 0 → (a ≡ 0) × (b ≡ 0)
 no_bits a b none = (omega (arith, none, or_add_and a b, and_le_l a b, and_le_r a b), omega (arith, none, or_add_and a b, and_le_l a b, and_le_r a b))
 
@@ -11,7 +11,7 @@ no_bits a b none = (omega (arith, none, or_add_and a b, and_le_l a b, and_le_r a
 no_difference : (a b : ℕ) → bit_xor a b ≡ 0 → a ≡ b
 no_difference a b none = omega (arith, none, xor_add_and a b, and_le_l a b, and_le_r a b)
 
--- where the bits so far and the lists that are left say whether E holds, the bits of one more pair and what is left then do
+-- if the bits so far and the lists that are left say whether E holds, the bits of one more pair and what is left then do
 pub says_on : {E : Type 0} (bits a b : ℕ) (xs ys xs' ys' : List ℕ) → ((bits ≡ 0) × (xs ≡ ys)) ↔ E → xs ≡ a ∷ xs' → ys ≡ b ∷ ys'
     → ((bit_or bits (bit_xor a b) ≡ 0) × (xs' ≡ ys')) ↔ E
 says_on bits a b xs ys xs' ys' says first first' = (

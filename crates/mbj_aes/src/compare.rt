@@ -1,7 +1,7 @@
 //! The comparison of keys.
 ghost use Rattle.std.specs.Prelude.{◌≡◌, ◌↔◌, IsTrue, length};
 
-/// Whether two slices have the same bytes. Where they are of one length every byte of both is looked at, and neither a
+/// Whether two slices have the same bytes. If they are of one length every byte of both is looked at, and neither a
 /// branch nor an index depends on one.
 pub fn are_equal(one: &[u8], other: &[u8]) -> bool
     ensures { IsTrue result ↔ (one.now ≡ other.now) }

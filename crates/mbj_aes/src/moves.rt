@@ -10,7 +10,7 @@ use std::simd::{u8x16, u8x32};
 
 /// A register of whole blocks whose bytes can be taken from any place of their block.
 pub trait TakenWord: BlockWord {
-    /// The byte of each block at the place that stands in each lane, which is below 16, and 0 where it is 128 or more.
+    /// The byte of each block at the place that stands in each lane, which is below 16, and 0 if it is 128 or more.
     fn taken(self, places: Self) -> Self
         requires { (b j : ℕ) → b < Self.BLOCKS → j < 16 → IsTableIndex (block_byte Self.lane places b j) }
         ensures { (b j : ℕ) → b < Self.BLOCKS → j < 16 → block_byte Self.lane result b j

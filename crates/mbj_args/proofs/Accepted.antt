@@ -42,7 +42,7 @@ both : (a b : Bool) → a && b ≡ true → (a ≡ true) × (b ≡ true)
 both true b h = (refl, h)
 both false b h = absurd (cc)
 
--- where the verdict is none, no row applies
+-- if the verdict is none, no row applies
 pub accepted : (j : Job) (n : ℕ) → verdict_at j n ≡ None → IsAccepted j n
 accepted j n none =
     let packet = second_way _ _ _ none in

@@ -134,7 +134,7 @@ fn jobs(alloc: Global, work: Work, len: usize) -> Result<Vec<Job>, AllocError> {
     Ok(jobs)
 }
 
-/// Keeps a result where one is given.
+/// Keeps a result if one is given.
 fn keep(results: &mut Vec<Done>, given: Option<Done>) -> Result<(), AllocError> {
     if let Some(done) = given {
         results.push(done)?;

@@ -51,7 +51,7 @@ impl<'k> Learnt<'k> {
         Ok(Learnt { keys, notes })
     }
 
-    /// Gives a job to a manager by what is learnt. Where its ring is full, the earliest job is flushed first.
+    /// Gives a job to a manager by what is learnt. If its ring is full, the earliest job is flushed first.
     fn submit_job(&mut self, manager: &mut Manager, job: Job) -> Submitted {
         let flushed = manager.make_room();
         manager.put_next(job);
@@ -92,7 +92,7 @@ fn jobs(alloc: Global, cipher: Cipher, len: usize) -> Result<Vec<Job>, AllocErro
     Ok(jobs)
 }
 
-/// Keeps a result where one is given.
+/// Keeps a result if one is given.
 fn keep(results: &mut Vec<Done>, given: Option<Done>) -> Result<(), AllocError> {
     if let Some(done) = given {
         results.push(done)?;

@@ -29,7 +29,7 @@ calls_told line cs b =
 
 -- ---- submitting
 
--- where no cell is left, that is told, and as many jobs are flushed as a group has
+-- if no cell is left, that is told, and as many jobs are flushed as a group has
 abbrev pub room_told : ℕ → Bursting → Told BurstLine Bursting
 room_told size b =
     if length b.manager.owed == CELLS then then_told (line.Full ∷ [], b) (calls_told line.Flush (replicate size calls.flush)) else ([], b)

@@ -68,7 +68,7 @@ impl Burster {
         Ok(given)
     }
 
-    /// Where no cell is left, tells that and flushes as many jobs as a group has.
+    /// If no cell is left, tells that and flushes as many jobs as a group has.
     fn make_room(&mut self, size: u32) -> Result<(), AllocError>
         requires size { 0 < size }
         requires room { HasRoom 0 self.old }

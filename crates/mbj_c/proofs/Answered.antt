@@ -1,10 +1,10 @@
--- What an answer's code says, where memory may run out.
+-- What an answer's code says, if memory may run out.
 use Rattle.std.proofs.Common.{◌≡◌, ◌≢◌, ◌∙◌, Ok, Err, Result, Some, refl, ap}
 use Rattle.mbj_c.specs.declared.refusal.Refusal.{Refusal}
 use Rattle.mbj_c.specs.Codes.{code_of, refusal_code}
 use Rattle.mbj_c.specs.Inside.Answers.{IsDoneAs}
 
--- where it isn't that of want of memory, it is the wanted one
+-- if it isn't that of want of memory, it is the wanted one
 pub code-wanted : {A : Type 0} (want : Result Unit Refusal) (next before : A) (answer : Result Unit Refusal) (after : A)
     → IsDoneAs want next before answer after → code_of answer ≢ 23 → code_of answer ≡ code_of want
 code-wanted (Ok u) next before (Ok v) after is other = refl
@@ -18,7 +18,7 @@ state-wanted (Ok u) next before (Ok v) after is other = is
 state-wanted (Ok u) next before (Err r) after is other = absurd (other (ap refusal_code is.0))
 state-wanted (Err q) next before answer after is other = is.1
 
--- where it is that of want of memory, the state is the one before, as with each refusal that is wanted
+-- if it is that of want of memory, the state is the one before, as with each refusal that is wanted
 pub state-kept : {A : Type 0} (want : Result Unit Refusal) (next before : A) (answer : Result Unit Refusal) (after : A)
     → IsDoneAs want next before answer after → ((q : Refusal) → want ≡ Err q → next ≡ before) → code_of answer ≡ 23 → after ≡ before
 state-kept (Ok u) next before (Ok v) after is kept memory = absurd (cc)

@@ -8,7 +8,7 @@ use Rattle.mbj_types.specs.Aes.{is_key_size}
 use Rattle.mbj_c.specs.declared.key_set.RawBytes.{RawBytes}
 use Rattle.mbj_c.specs.KeySets.{are_keys, bytes_each}
 
--- whether the key at place i is one of AES, where r says so, and those behind it
+-- whether the key at place i is one of AES, if r says so, and those behind it
 pub keys-at : (keys : List RawBytes) (i : ℕ) (d : RawBytes) (r : Bool) → i < length keys
     → r ≡ is_key_size (length (slice_index_or keys i d).bytes.now)
     → are_keys (bytes_each (drop i keys)) ≡ (r && are_keys (bytes_each (drop (i + 1) keys)))
@@ -30,7 +30,7 @@ both-second : (a b : Bool) → (a && b) ≡ true → b ≡ true
 both-second true b is = is
 both-second false b is = absurd (cc)
 
--- the key at place i is one of AES where it is one and those behind it are
+-- the key at place i is one of AES if it is one and those behind it are
 pub first-size : (keys : List RawBytes) (i : ℕ) (d : RawBytes) → i < length keys → are_keys (bytes_each (drop i keys)) ≡ true
     → IsKeySize (length (slice_index_or keys i d).bytes.now) × (are_keys (bytes_each (drop (i + 1) keys)) ≡ true)
 first-size keys i d within are =

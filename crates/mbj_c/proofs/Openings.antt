@@ -69,7 +69,7 @@ ccm_by_tag key nonce aad text tag w new found takes same is tagged long =
     ∙ ap₂ (λ x f. by x f (length text)) (is ∙ ap (λ (p : Pair). p.0) keyed) (tagged ∙ ap (λ (p : Pair). p.1) keyed)
     ∙ sym (ap opened takes)
 
--- what holds where a test lets a call be done holds where its code is 0
+-- what holds if a test lets a call be done holds if its code is 0
 pub done_says : (t : Bool) (answer : Result Unit Refusal) (P : Type 0) → answer ≡ wants t NoState → OnOk answer P → code_of answer ≡ 0 → P
 done_says true answer P is says none = subst (λ (r : Result (Unit {0}) Refusal). OnOk r P) is says
 done_says false answer P is says none = absurd (omega (arith, ap code_of is, none))

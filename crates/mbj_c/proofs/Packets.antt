@@ -38,7 +38,7 @@ seam n k front text rest front_is text_is =
     ∙ ap (λ i. take i (text ++ rest)) (sym text_is)
     ∙ take-append_seam text rest
 
--- a text that was put into a range, where it is as long as that, stands there
+-- a text that was put into a range, if it is as long as that, stands there
 text-in-range : (off len : ℕ) (text p : List ℕ) → off + len ≤ length p → length (take off p ++ text ++ drop (off + len) p) ≡ length p
     → take len (drop off (take off p ++ text ++ drop (off + len) p)) ≡ text
 text-in-range off len text p inside same =

@@ -26,7 +26,7 @@ pub post-kept : (r : RawJob) (m : Option SeatState) (q : Refusal) → (posted r 
 post-kept r None q is = refl
 post-kept r (Some s) q is = ap Some (in-kept r s q is)
 
--- no post is refused for want of memory where there is memory
+-- no post is refused for want of memory if there is memory
 meant-for-another : (meant : Option Job) (s : SeatState) → (posted_with meant s).0 ≢ Err refusal.Memory
 meant-for-another None s is = absurd (cc)
 meant-for-another (Some j) s is = absurd (cc)

@@ -104,7 +104,7 @@ range-within (Some reason) j some = omega arith
 pub given-within : (j : Job) → (given_range j).off + (given_range j).len ≤ length (result_of j).packet
 given-within j = subst (λ n. (given_range j).off + (given_range j).len ≤ n) (sym (length-result_of j)) (range-within (verdict j) j refl)
 
--- the first result, or another where there is none
+-- the first result, or another if there is none
 abbrev pub head_or : Done → List Done → Done
 head_or d [] = d
 head_or d (e ∷ es) = e
@@ -296,7 +296,7 @@ given-shorter : (reason : Option Reason) (j : Job) → (range_by reason j).len �
 given-shorter None j = shorter j.cipher j
 given-shorter (Some reason) j = omega arith
 
--- where there is room for the range that a job says, there is for the one that it gives back
+-- if there is room for the range that a job says, there is for the one that it gives back
 pub shorter-fits : (j : Job) (room : ℕ) (tag : Bool) → (nat_le j.cipher_len room && tag) ≡ true → (nat_le (given_range j).len room && tag) ≡ true
 shorter-fits j room tag fits =
     let parts = and_parts (nat_le j.cipher_len room) tag fits in

@@ -24,7 +24,7 @@ pub refused-kept : (i : ℕ) (r : RawJob) (m : Option RangedState) (q : Refusal)
 refused-kept i r None q is = refl
 refused-kept i r (Some k) q is = ap Some (at-refused i r k q is)
 
--- no filling is refused for want of memory where there is memory
+-- no filling is refused for want of memory if there is memory
 meant-for-another : (i : ℕ) (meant : Option Job) (k : RangedState) → (filled_with i meant k).0 ≢ Err refusal.Memory
 meant-for-another i None k is = absurd (cc)
 meant-for-another i (Some j) k is = absurd (cc)

@@ -41,7 +41,7 @@ module _ {S : Type 0} (call : ℕ → RawJob → S → Result Unit Refusal × S)
   after_taking zero jobs codes s = take_burst 0 s
   after_taking (suc n) jobs codes s = with_returned (slice_get jobs n) (slice_get codes n) (after_taking n jobs codes s)
 
-  -- a job's code is that of the single call, which takes it behind those that the burst took, or that of want of memory, where it
+  -- a job's code is that of the single call, which takes it behind those that the burst took, or that of want of memory, if it
   -- would be taken
   abbrev pub IsAnswer : Option RawJob → Option ℕ → TakeBurst S → Type 0
   IsAnswer (Some r) (Some code) b =

@@ -20,7 +20,7 @@ abbrev pub queue_size : Option RangedState → ℕ
 queue_size None = 0
 queue_size (Some k) = length k.manager.owed
 
--- what is counted, where there is a manager and a kind
+-- what is counted, if there is a manager and a kind
 abbrev pub counted : Option RangedState → Option Kind → Option Counts
 counted (Some m) (Some k) = Some (counts_of k m.manager)
 counted m k = None

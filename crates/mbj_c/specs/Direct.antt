@@ -1,4 +1,4 @@
--- What the calls without a manager give, where C's arguments are accepted.
+-- What the calls without a manager give, if C's arguments are accepted.
 use Rattle.std.specs.Prelude.{ℕ, nat_le, ◌&&◌, Bool, true, false, List, ◌++◌, length, take, drop, replicate, bytes_eq, Option, None, Some, Result, Ok, Err, slice_get, if◌then◌else◌}
 use Rattle.mbj_types.specs.declared.class.HashName.{HashName}
 use Rattle.mbj_types.specs.declared.job.Dir.{Dir}
@@ -39,7 +39,7 @@ Pair = List ℕ × List ℕ
 abbrev pub put_in_front : List ℕ → List ℕ → List ℕ
 put_in_front bytes room = bytes ++ drop (length bytes) room
 
--- both are written, or none where a room is too short
+-- both are written, or none if a room is too short
 abbrev pub put_both : Result Pair Refusal → Pair → Result Unit Refusal × Pair
 put_both (Err r) rooms = (Err r, rooms)
 put_both (Ok made) rooms =
@@ -123,7 +123,7 @@ abbrev pub dir_by : Option Dir → Result Dir Refusal
 dir_by None = Err Word
 dir_by (Some d) = Ok d
 
--- how a text is begun: its direction, where that is one and GCM takes the key and the IV
+-- how a text is begun: its direction, if that is one and GCM takes the key and the IV
 abbrev pub begun_by : Result Dir Refusal → List ℕ → List ℕ → Result Dir Refusal
 begun_by (Err r) key iv = Err r
 begun_by (Ok d) key iv = and_then (gcm_accepts key iv) (Ok d)

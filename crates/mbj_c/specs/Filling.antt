@@ -15,7 +15,7 @@ use Rattle.mbj_c.specs.Ranges.{given_range, narrowed}
 use Rattle.mbj_c.specs.State.{RangedState, new_ranged}
 use Rattle.mbj_c.specs.Words.{ciphers, dirs, orders, auths}
 
--- the words, where each code is one
+-- the words, if each code is one
 abbrev pub words_of : Option Cipher → Option Dir → Option Order → Option Auth → Option Words
 words_of (Some c) (Some d) (Some o) (Some a) = Some (record { cipher = c; dir = d; order = o; auth = a })
 words_of c d o a = None
@@ -46,11 +46,11 @@ job_with r w = record {
   session = session_of_raw r.session;
 }
 
--- the job that C's job says, where each code is a word
+-- the job that C's job says, if each code is a word
 abbrev pub job_of_raw : RawJob → Option Job
 job_of_raw r = option_map (job_with r) (words_of_raw r)
 
--- the list with x for element i, and with x last where it has no more than i elements
+-- the list with x for element i, and with x last if it has no more than i elements
 abbrev pub put_at : {A : Type 0} → ℕ → A → List A → List A
 put_at i x xs = take i xs ++ x ∷ drop (i + 1) xs
 
@@ -66,7 +66,7 @@ abbrev pub filled_with : ℕ → Option Job → RangedState → Result Unit Refu
 filled_with i None k = (Err refusal.Word, k)
 filled_with i (Some j) k = (Ok tt, with_job_at i j k)
 
--- what filling open cell i comes to where there is memory: it is refused where that cell isn't left, and then where a code is none
+-- what filling open cell i comes to if there is memory: it is refused if that cell isn't left, and then if a code is none
 abbrev pub filled_at : ℕ → RawJob → RangedState → Result Unit Refusal × RangedState
 filled_at i r k = if nat_le CELLS (length k.manager.owed + i) then (Err refusal.Full, k) else filled_with i (job_of_raw r) k
 
@@ -78,7 +78,7 @@ filled_cell i r (Some k) = ((filled_at i r k).0, Some (filled_at i r k).1)
 abbrev pub filled : RawJob → Option RangedState → Result Unit Refusal × Option RangedState
 filled r m = filled_cell 0 r m
 
--- what making a manager comes to where there is memory
+-- what making a manager comes to if there is memory
 abbrev pub made : Option RangedState → Result Unit Refusal × Option RangedState
 made None = (Ok tt, Some new_ranged)
 made (Some k) = (Err refusal.HasManager, Some k)

@@ -37,13 +37,13 @@ made_by call.Submit notes m = counted (found_by notes m.opened) m (entered m)
 made_by call.Completed notes m = m
 made_by call.Flush notes m = record m { machine = flushed m.machine }
 
--- the results that are owed once the call's job, where it has one, is submitted: the first one is the one that may be given back
+-- the results that are owed once the call's job, if it has one, is submitted: the first one is the one that may be given back
 abbrev pub owed_in : Call → ManagerState → List Done
 owed_in call.Submit m = m.owed ++ map result_of (take 1 m.opened)
 owed_in call.Completed m = m.owed
 owed_in call.Flush m = m.owed
 
--- the job that the call submits, where it submits one
+-- the job that the call submits, if it submits one
 abbrev pub job_entered : Call → List Job → List Job
 job_entered call.Submit opened = take 1 opened
 job_entered call.Completed opened = []
@@ -99,7 +99,7 @@ gone c k = record {
   notes = k.notes;
 }
 
--- the first result is given back where it is finished
+-- the first result is given back if it is finished
 abbrev pub given_first : RangedState → Option Given × RangedState
 given_first k =
     let done = (after_get_completed k.manager).0 in (
@@ -112,18 +112,18 @@ given_first k =
       },
     )
 
--- a job is open where the call submits it
+-- a job is open if the call submits it
 abbrev pub has_job : Call → ManagerState → Bool
 has_job call.Submit m = nat_lt 0 (length m.opened)
 has_job call.Completed m = true
 has_job call.Flush m = true
 
--- there is room for the bytes of this range, where there is one, and for any tag
+-- there is room for the bytes of this range, if there is one, and for any tag
 abbrev pub has_room_for : Option CipherRange → RawDone → Bool
 has_room_for None out = true
 has_room_for (Some r) out = nat_le r.len (length out.dst.now) && nat_le MAX_TAG_BYTES (length out.tag.now)
 
--- a call is refused where it lacks the job that it submits, and where there is too little room for the first result that is owed,
+-- a call is refused if it lacks the job that it submits, and if there is too little room for the first result that is owed,
 -- whether that one is finished or not
 abbrev pub refusal_in : Call → RangedState → RawDone → Option Refusal
 refusal_in c k out =

@@ -41,7 +41,7 @@ abbrev pub jobs_if : Result Unit Refusal → Option Job → List Job
 jobs_if (Ok u) j = option_to_list j
 jobs_if (Err r) j = []
 
--- the job of this place of a burst, where it was posted
+-- the job of this place of a burst, if it was posted
 abbrev pub job_at : Option RawJob → Option ℕ → Option SeatState → List Job
 job_at (Some r) (Some code) m = if code == refusal_code Memory then [] else jobs_if (posted r m).0 (job_of_raw r)
 job_at r code m = []

@@ -43,7 +43,7 @@ abbrev pub posted_with : Option Job → SeatState → Result Unit Refusal × Sea
 posted_with None s = (Err refusal.Word, s)
 posted_with (Some j) s = (Ok tt, after_post j s)
 
--- what a post comes to where there is memory
+-- what a post comes to if there is memory
 abbrev pub posted_in : RawJob → SeatState → Result Unit Refusal × SeatState
 posted_in r s =
     if is_submitter s
@@ -105,7 +105,7 @@ KeepsJobsIn None None = Unit {0}
 KeepsJobsIn (Some s) (Some t) = KeepsJobs s t
 KeepsJobsIn s t = ⊥
 
--- this many claims came to the end of the hand, and some left at its front; where there is no seat, none
+-- this many claims came to the end of the hand, and some left at its front; if there is no seat, none
 abbrev pub ClaimsIn : ℕ → Option SeatState → Option SeatState → Type 0
 ClaimsIn n None t = n ≡ 0
 ClaimsIn n (Some s) None = ⊥

@@ -11,7 +11,7 @@ pub record RangedState : Type 0 where
   pub ranges : List CipherRange
   -- the ranges that the open jobs give back, the first opened first
   pub filled : List CipherRange
-  -- what is known of the key sessions that the manager uses, where it uses a set
+  -- what is known of the key sessions that the manager uses, if it uses a set
   pub notes : Option (List Known)
 
 -- a manager's state with its ranges, and with what is known of the key sessions

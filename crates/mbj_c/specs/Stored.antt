@@ -1,4 +1,4 @@
--- What stored states are, where C asks for them (RFC 2104, 4).
+-- What stored states are, if C asks for them (RFC 2104, 4).
 use Rattle.std.specs.Prelude.{ℕ, ◌==◌, nat_le, List, ◌++◌, length, drop, Option, Some, None, Result, Ok, Err, slice_get, if◌then◌else◌}
 use Rattle.mbj_types.specs.declared.class.HashName.{HashName}
 use Rattle.mbj_types.specs.Auths.{hash_of_name, compression_of_name}
@@ -7,7 +7,7 @@ use Rattle.mbj_c.specs.declared.refusal.Refusal.{Refusal}
 use Rattle.mbj_c.specs.declared.refusal.Refusal.TheVariants.{NoRoom, TextLength, Word}
 use Rattle.mbj_c.specs.Words.{hashes}
 
--- the states of a key, the inner one first, where the hash is one
+-- the states of a key, the inner one first, if the hash is one
 abbrev pub states_by : Option HashName → List ℕ → Result (List ℕ) Refusal
 states_by None key = Err Word
 states_by (Some h) key = Ok (key_states (hash_of_name h) (compression_of_name h) key)
@@ -15,7 +15,7 @@ states_by (Some h) key = Ok (key_states (hash_of_name h) (compression_of_name h)
 abbrev pub states_by_code : ℕ → List ℕ → Result (List ℕ) Refusal
 states_by_code code key = states_by (slice_get hashes code) key
 
--- the state behind one block, where the hash is one and the block has its length
+-- the state behind one block, if the hash is one and the block has its length
 abbrev pub state_by : Option HashName → List ℕ → Result (List ℕ) Refusal
 state_by None block = Err Word
 state_by (Some h) block =
@@ -24,7 +24,7 @@ state_by (Some h) block =
 abbrev pub state_by_code : ℕ → List ℕ → Result (List ℕ) Refusal
 state_by_code code block = state_by (slice_get hashes code) block
 
--- bytes are put at the front of their room, where that holds them; else nothing is written
+-- bytes are put at the front of their room, if that holds them; else nothing is written
 abbrev pub put_in : Result (List ℕ) Refusal → List ℕ → Result Unit Refusal × List ℕ
 put_in (Err r) room = (Err r, room)
 put_in (Ok bytes) room =

@@ -24,7 +24,7 @@ abbrev pub answered_by : Result Unit Refusal → Option RangedState → RawDone 
 answered_by (Ok u) m out = answered call.Submit m out
 answered_by (Err r) m out = (Err r, m)
 
--- what the call comes to where there is memory: what submitting comes to after the job was filled
+-- what the call comes to if there is memory: what submitting comes to after the job was filled
 abbrev pub submitted : RawJob → Option RangedState → RawDone → Result (Option Given) Refusal × Option RangedState
 submitted r m out = answered_by (filled r m).0 (filled r m).1 out
 

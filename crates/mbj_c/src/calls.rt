@@ -26,7 +26,7 @@ fn boxed(alloc: Global, keeping: Keeping) -> Result<Box<RangedManager>, AllocErr
     Ok(Box::new(alloc, manager)?)
 }
 
-/// Makes a manager, where the handle has none.
+/// Makes a manager, if the handle has none.
 pub(crate) fn make(alloc: Global, handle: &mut Handle, keeping: Keeping) -> Result<(), Refusal>
     ensures { IsDone (made handle.old.manager) handle.old.manager result handle.new.manager }
 {
@@ -89,7 +89,7 @@ pub(crate) fn give(
     }
 }
 
-/// How many jobs are submitted and not given back: none, where there is no manager.
+/// How many jobs are submitted and not given back: none, if there is no manager.
 pub(crate) fn queue_size(alloc: Global, handle: &mut Handle) -> u32
     ensures size { result ≡ queue_size handle.old.manager }
     ensures same { handle.new.manager ≡ handle.old.manager }
@@ -104,7 +104,7 @@ pub(crate) fn queue_size(alloc: Global, handle: &mut Handle) -> u32
     }
 }
 
-/// Tells what is counted of the lanes of the kind with this code, where there is a manager and such a kind.
+/// Tells what is counted of the lanes of the kind with this code, if there is a manager and such a kind.
 pub(crate) fn count(alloc: Global, handle: &mut Handle, kind: u32, out: &mut Counts) -> bool
     ensures counted { IsCounted handle.old.manager kind result out.old out.new }
     ensures same { handle.new.manager ≡ handle.old.manager }

@@ -72,9 +72,9 @@ fn front(
     Ok((Arc::new(alloc, front)?, seats))
 }
 
-/// A share of the handle's keys, where it has a set.
+/// A share of the handle's keys, if it has a set.
 ///
-/// Returns `AllocError` where the set has more owners than can be counted.
+/// Returns `AllocError` if the set has more owners than can be counted.
 fn keys_of(alloc: Global, handle: &mut KeysHandle) -> Result<Option<Arc<Keys>>, AllocError>
     ensures same { handle.new.keys ≡ handle.old.keys }
 {
@@ -90,7 +90,7 @@ fn keys_of(alloc: Global, handle: &mut KeysHandle) -> Result<Option<Arc<Keys>>, 
 
 /// The same share for one more owner.
 ///
-/// Returns `AllocError` where it has more owners than can be counted.
+/// Returns `AllocError` if it has more owners than can be counted.
 fn share_of(keys: &Option<Arc<Keys>>) -> Result<Option<Arc<Keys>>, AllocError> {
     match keys {
         Some(keys) => Ok(Some(Arc::try_clone(keys)?)),
@@ -148,7 +148,7 @@ fn put_all(places: &mut [SeatHandle], mut made: VecDeque<Box<Seated>>)
     }
 }
 
-/// All seats of a new front, which share the handle's keys, where it has a set.
+/// All seats of a new front, which share the handle's keys, if it has a set.
 ///
 /// Returns `AllocError` for want of memory.
 fn all_seats(

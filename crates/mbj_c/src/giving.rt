@@ -19,13 +19,13 @@ pub struct RawDone<'a> {
     pub dst: &'a mut [u8],
     /// Room for a tag, at least 64 bytes. Its bytes behind the tag stay as they are.
     pub tag: &'a mut [u8],
-    /// How many bytes were ciphered: 0 where the job has no cipher or was refused.
+    /// How many bytes were ciphered: 0 if the job has no cipher or was refused.
     pub dst_len: usize,
-    /// The length of the tag, in bytes: 0 where the job has no authentication or was refused.
+    /// The length of the tag, in bytes: 0 if the job has no authentication or was refused.
     pub tag_len: u32,
-    /// 0 where the job was done, 1 where it was refused.
+    /// 0 if the job was done, 1 if it was refused.
     pub status: u32,
-    /// 0 where the job was done, else the number of the reason for which it was refused.
+    /// 0 if the job was done, else the number of the reason for which it was refused.
     pub reason: u32,
 }
 

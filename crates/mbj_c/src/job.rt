@@ -80,7 +80,7 @@ impl RawJob<'_> {
         })
     }
 
-    /// Makes `job` the job with these words, its bytes in the memory that `job` has, where they fit there.
+    /// Makes `job` the job with these words, its bytes in the memory that `job` has, if they fit there.
     ///
     /// Returns `AllocError` for want of memory.
     pub(crate) fn refill(

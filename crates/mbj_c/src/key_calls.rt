@@ -32,7 +32,7 @@ fn has_set(alloc: Global, handle: &mut KeysHandle) -> bool
     }
 }
 
-/// Makes a set of these keys, where the handle has none.
+/// Makes a set of these keys, if the handle has none.
 pub(crate) fn make(
     alloc: Global,
     handle: &mut KeysHandle,
@@ -50,7 +50,7 @@ pub(crate) fn make(
     Ok(())
 }
 
-/// Frees the handle's set, where it has one.
+/// Frees the handle's set, if it has one.
 pub(crate) fn free(alloc: Global, handle: &mut KeysHandle) -> bool
     ensures freed { result ≡ is_some handle.old.keys }
     ensures empty { handle.new.keys ≡ None }
@@ -72,7 +72,7 @@ fn put_shared(alloc: Global, set: &KeySet, handle: &mut KeysHandle) -> Result<()
     Ok(())
 }
 
-/// Puts the set of one handle into another one, too, where that has none.
+/// Puts the set of one handle into another one, too, if that has none.
 pub(crate) fn share(
     alloc: Global,
     from: &mut KeysHandle,

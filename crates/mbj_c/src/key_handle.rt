@@ -8,7 +8,7 @@ use std::marker::{Model, Send};
 use std::mem;
 use std::ptr::null_mut;
 
-/// A set of key sessions on the heap, as C holds it: one word, which is null where there is none. A handle is never dropped: what is
+/// A set of key sessions on the heap, as C holds it: one word, which is null if there is none. A handle is never dropped: what is
 /// taken out of it is freed. Handles of several threads may be of one set, which is freed with the last of them and with the last
 /// manager that uses it.
 #[repr(C)]

@@ -95,7 +95,7 @@ impl KeySet {
 
     /// The same set for another owner.
     ///
-    /// Returns `AllocError` where it has more owners than can be counted.
+    /// Returns `AllocError` if it has more owners than can be counted.
     pub(crate) fn share(&self) -> Result<KeySet, AllocError>
         ensures { IfOk result (λ s. s ≡ self.now) }
     {

@@ -22,7 +22,7 @@ impl CipherRange {
         CipherRange { off: 0, len: 0 }
     }
 
-    /// The range that a job gives back: the cipher range, and none where the job has no cipher or is refused.
+    /// The range that a job gives back: the cipher range, and none if the job has no cipher or is refused.
     pub(crate) fn given_by(job: &Job) -> CipherRange
         ensures { result ≡ given_range job.now }
     {

@@ -30,7 +30,7 @@ use std::alloc::{AllocError, Global};
 use std::marker::Model;
 
 /// A manager, and a blank cell beside its own. The range that the earliest job gives back is read off its cell, so that the room for a
-/// result can be looked at before the result is taken. Where the manager uses a set of key sessions, it knows their schedules.
+/// result can be looked at before the result is taken. If the manager uses a set of key sessions, it knows their schedules.
 #[derive(Drop)]
 pub struct RangedManager {
     manager: Manager,
@@ -183,7 +183,7 @@ impl RangedManager {
         }
     }
 
-    /// Fills an open cell, or the one behind those that are open, with a copy of C's job. Where it returns a refusal, nothing
+    /// Fills an open cell, or the one behind those that are open, with a copy of C's job. If it returns a refusal, nothing
     /// changes.
     pub(crate) fn fill(&mut self, alloc: Global, cell: u32, raw: &RawJob<'_>) -> Result<(), Refusal>
         requires cell { cell ≤ length self.old.manager.opened }
@@ -229,7 +229,7 @@ impl RangedManager {
         self.give_first(out)
     }
 
-    /// Fills the first open cell with a copy of C's job and submits it, where neither is refused, and tells C of it as `give` does.
+    /// Fills the first open cell with a copy of C's job and submits it, if neither is refused, and returns to C what `give` does.
     pub(crate) fn submit_job(
         &mut self,
         alloc: Global,

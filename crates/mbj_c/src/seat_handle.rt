@@ -10,7 +10,7 @@ use std::marker::{Model, Send};
 use std::mem;
 use std::ptr::null_mut;
 
-/// A seat of the shared front on the heap, as C holds it: one word, which is null where there is none. A handle is never dropped: what is
+/// A seat of the shared front on the heap, as C holds it: one word, which is null if there is none. A handle is never dropped: what is
 /// taken out of it is freed.
 #[repr(C)]
 pub struct SeatHandle {

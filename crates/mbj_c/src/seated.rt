@@ -34,7 +34,7 @@ use std::marker::Model;
 use std::mem;
 use std::sync::Arc;
 
-/// A party of the front that C has a seat of. Where it is a submitter, the range is kept that each of its jobs gives back which is out.
+/// A party of the front that C has a seat of. If it is a submitter, the range is kept that each of its jobs gives back which is out.
 #[derive(Drop)]
 pub struct Seated {
     alloc: Global,
@@ -80,7 +80,7 @@ fn party(alloc: Global, seat: Seat, keys: Option<Arc<Keys>>) -> Result<Party<'st
     }
 }
 
-/// Fills a job with C's. Returns the range that the job gives back. Where it fails, the job keeps no secret.
+/// Fills a job with C's. Returns the range that the job gives back. If it fails, the job keeps no secret.
 ///
 /// Returns `AllocError` for want of memory.
 fn fill(
@@ -146,7 +146,7 @@ fn post(party: &mut Party<'_>, front: &Front, job: Job)
     }
 }
 
-/// Whether there is room for a range, where there is one, and for any tag.
+/// Whether there is room for a range, if there is one, and for any tag.
 fn has_room(out: &RawDone<'_>, range: Option<CipherRange>) -> bool
     ensures { result ≡ has_room_for range out.now }
 {
@@ -184,7 +184,7 @@ impl Seated {
         })
     }
 
-    /// Posts a copy of C's job, for whichever party claims it. Where it returns a refusal, nothing changes.
+    /// Posts a copy of C's job, for whichever party claims it. If it returns a refusal, nothing changes.
     pub(crate) fn post(&mut self, raw: &RawJob<'_>) -> Result<(), Refusal>
         ensures { IsDone (posted_in raw.now self.old) self.old result self.new }
     {
@@ -214,7 +214,7 @@ impl Seated {
         post(&mut self.party, &self.front, job);
     }
 
-    /// Writes the result of the earliest job that is out, where that is finished, with the range of its packet alone. Returns whether it
+    /// Writes the result of the earliest job that is out, if that is finished, with the range of its packet alone. Returns whether it
     /// is; `refusal` is 0, or the code of a refusal, by which nothing changes.
     pub(crate) fn collect(&mut self, out: &mut RawDone<'_>, refusal: &mut u32) -> bool
         ensures { IsCollectedIn self.old self.new result refusal.new out.old out.new }
@@ -231,7 +231,7 @@ impl Seated {
         self.take(out)
     }
 
-    /// Collects, where there is room for the earliest result.
+    /// Collects, if there is room for the earliest result.
     fn take(&mut self, out: &mut RawDone<'_>) -> bool
         requires { IsTrue (has_room_for (slice_get self.old.ranges 0) out.old) }
         ensures { (given : Option Given) × (Collects given self.old self.new × IsReturnedAt (Ok given) result out.old out.new) }

@@ -40,7 +40,7 @@ impl Sessions {
         Ok(Sessions { set, notes })
     }
 
-    /// Submits the first open job, with the entry of its session where that has the job's key.
+    /// Submits the first open job, with the entry of its session if that has the job's key.
     pub(crate) fn submit(&mut self, manager: &mut Manager)
         requires is_open { 0 < length manager.old.opened }
         ensures same { self.new ≡ self.old }

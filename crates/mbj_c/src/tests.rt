@@ -161,7 +161,7 @@ fn make(
     }
 }
 
-/// Submits what is filled, and flushes where that gives nothing.
+/// Submits what is filled, and flushes if that gives nothing.
 fn submit_or_flush(alloc: Global, handle: &mut Handle, dst: &mut [u8], tag: &mut [u8]) -> Returned {
     let returned = make(alloc, handle, Export::Submit, dst, tag);
     if returned.given {

@@ -48,7 +48,7 @@ rule o = record (new_rule o.name) {
   parser = Some (vp.Unsigned o.least o.greatest);
 }
 
--- the number that a text is, where it is in range; a plus sign and zeros may stand in front
+-- the number that a text is, if it is in range; a plus sign and zeros may stand in front
 abbrev pub number_within : ℕ → ℕ → Text → Option ℕ
 number_within least greatest text =
     if is_unsigned_in least greatest text then Some (digits_value 10 (without_leading_plus text)) else None
@@ -96,7 +96,7 @@ app = record {
 abbrev pub found_command : Text × List Row → Option Command
 found_command used = option_and_then (λ c. c.1 used.1) (find (λ c. bytes_eq used.0 c.0.name) commands)
 
--- the command that the words are, the first of which is the program's name, where clap finds no fault
+-- the command that the words are, the first of which is the program's name, if clap finds no fault
 unfoldable pub command : List Text → Option Command
 command words = if is_empty (fault_of app words) then option_and_then found_command (subcommand_of app words) else None
 

@@ -73,7 +73,7 @@ pub(crate) fn argument<'a>(alloc: Global, option: &NumberOption) -> Arg<'a>
         .help(option.help)
 }
 
-/// The number that a text is, where it is from `least` to `greatest`.
+/// The number that a text is, if it is from `least` to `greatest`.
 fn parse_number(text: &str, least: u64, greatest: u64) -> Option<u64>
     ensures value { result ≡ number_within least greatest text.now }
     ensures range { IfSome result (λ n. (least ≤ n) × (n ≤ greatest)) }

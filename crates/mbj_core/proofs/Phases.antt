@@ -50,7 +50,7 @@ module _ {J D : Type 0} (owed : J → D) where
       let here = open_there owed v p m (f.cells i) (each_number owed S W f law p m less (law.behind p) room) at refl in
       (here, fills owed S W f p j looks law less (λ e. open_take (sym at ∙ e)) room (ap is_hand here))
 
-  -- at the cell of the number handed stands a result where its word is 2
+  -- at the cell of the number handed stands a result if its word is 2
   pub done_there : (v : View D) (s : ℕ) (y : Cell J D) → Fits owed v s v.handed y → word_of y ≡ 2 → (d : D) × Is (done d) y × (slice_get v.due v.handed ≡ Some d)
   done_there v s free h two = absurd (omega arith)
   done_there v s (ready j) h two = absurd (omega arith)

@@ -64,7 +64,7 @@ module _ {J D : Type 0} (owed : J → D) (submitters workers : ℕ) where
       let v = f.seats p in
       (p < submitters + workers)
       × ((hand : List (ℕ × D)) × Leaves v.hand c d hand × Changes f g c (done d) p (with_hand v hand))
-  -- the earliest of s that is out has its result: it is handed out, and the cell is free (where none is out, a lawful
+  -- the earliest of s that is out has its result: it is handed out, and the cell is free (if none is out, a lawful
   -- front has no result in that cell)
   Step f (collect s) (collected d) g =
       let v = f.seats s in

@@ -5,7 +5,7 @@ use Rattle.mbj_core.specs.declared.party.View.{View}
 use Rattle.mbj_core.specs.declared.party.Phase.{Phase}
 use Rattle.mbj_core.specs.declared.party.Phase.TheVariants.{Rest}
 
--- Party p is the submitter p where p is below the number of submitters, and else a worker.
+-- Party p is the submitter p if p is below the number of submitters, and else a worker.
 pub record FrontState (J D : Type 0) : Type 0 where
   pub cells : ℕ → Cell J D
   pub seats : ℕ → View D

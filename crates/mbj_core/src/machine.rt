@@ -20,7 +20,7 @@ use std::marker::Model;
 /// A submitter's jobs that are out: posted, and their results not collected.
 #[derive(Clone, Copy)]
 pub(crate) struct JobsOut {
-    /// The number of the earliest one, or of the next job where none is out, modulo `SUBMITTER_CELLS`.
+    /// The number of the earliest one, or of the next job if none is out, modulo `SUBMITTER_CELLS`.
     pub first: u32,
     /// How many there are.
     pub count: u32,
@@ -105,7 +105,7 @@ impl Core {
         self.outs[s as usize].count
     }
 
-    /// The cell of a submitter's earliest job that is out, or of its next job where none is out.
+    /// The cell of a submitter's earliest job that is out, or of its next job if none is out.
     pub fn first_cell(&self, s: u32) -> u32
         requires submitter { s < self.now.submitters }
         ensures cell { result ≡ first_cell self.now s }

@@ -169,7 +169,7 @@ impl PartHash {
         )
     }
 
-    /// The same where all bytes that were taken are additional data, as GMAC has it, and there is no ciphertext.
+    /// The same if all bytes that were taken are additional data, as GMAC has it, and there is no ciphertext.
     pub(crate) fn value_of_data(&self) -> [u8; 16]
         ensures { (aad : List ℕ) → IsHashed [] aad self.now
             → result ≡ ghash self.now.subkey (filled_blocks aad ++ (bit_length (length aad) ++ bit_length 0) ∷ []) }

@@ -1,4 +1,4 @@
--- A lawful state is lawful as the core sees it, and empty where no party has done anything.
+-- A lawful state is lawful as the core sees it, and empty if no party has done anything.
 use Rattle.std.proofs.Common.{◌≡◌, ℕ, ◌+◌, ◌/◌, ◌%◌, ◌<◌, ◌≤◌, length, subst, refl, ap, ◌∙◌, sym, arith}
 use Rattle.mbj_core.specs.declared.cells.TheConstants.{SUBMITTER_CELLS}
 use Rattle.mbj_core.specs.declared.party.View.{View}
@@ -41,7 +41,7 @@ module _ {J D : Type 0} (owed : J → D) where
     nobody = λ p far. ap rested (law.nobody p far);
   })
 
-  -- where no party has done anything each cell is free
+  -- if no party has done anything each cell is free
   pub all_free : NewFrontsAreEmpty owed
   all_free S W f law new c less =
       let s : ℕ = c / SUBMITTER_CELLS in let n : ℕ = c % SUBMITTER_CELLS in let v : View D = f.seats s in let is = new s in

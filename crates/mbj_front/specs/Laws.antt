@@ -38,13 +38,13 @@ module _ {J D : Type 0} (owed : J → D) where
       (submitters workers : ℕ) (f : FrontState J D)
       → Lawful owed submitters workers f → Lawful owed submitters workers (as_core f)
 
-  -- where no party has done anything each cell is free
+  -- if no party has done anything each cell is free
   abbrev pub NewFrontsAreEmpty : Type 0
   NewFrontsAreEmpty =
       (submitters workers : ℕ) (f : FrontState J D)
       → Lawful owed submitters workers f → ((p : ℕ) → f.seats p ≡ new_party p) → (c : ℕ) → c < SUBMITTER_CELLS * submitters → f.cells c ≡ free
 
-  -- the next party is cut from the root, where the rule holds before and after: the party has done nothing
+  -- the next party is cut from the root, if the rule holds before and after: the party has done nothing
   abbrev pub CutsKeepTheRule : Type 0
   CutsKeepTheRule =
       (submitters workers seat k : ℕ) → k < submitters + workers

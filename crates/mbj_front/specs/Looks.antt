@@ -31,13 +31,13 @@ module _ {J D : Type 0} (owed : J → D) (submitters workers : ℕ) (s : State (
   abbrev pub IsLookedAt : Type 0
   IsLookedAt = StepsBy (looking c word_found) word_found keeps (after_look (f.seats p) c word_found)
 
-  -- the job of the cell is claimed where the word found is READY, and else the word is looked at
+  -- the job of the cell is claimed if the word found is READY, and else the word is looked at
   pub record IsClaimed : Type 0 where
     pub ready : word_found ≡ READY
         → (j : J) × StepsBy (claiming c j) (word_of {J = J} (hand_of p (owed j))) (takes c (Task j)) (after_claim (f.seats p) c (owed j))
     pub other : word_found ≢ READY → IsLookedAt
 
-  -- the result in the cell is taken where the word found is DONE, and else the word is looked at
+  -- the result in the cell is taken if the word found is DONE, and else the word is looked at
   pub record IsTaken : Type 0 where
     pub done : word_found ≡ DONE
         → (d : D) × StepsBy (taking d) (word_of {J = J} {D = D} (take_by p)) (takes c (Made d)) (after_take (f.seats p) c)

@@ -26,7 +26,7 @@ home_of (take_by p) = none
 abbrev pub place : {D : Type 0} → ℕ → ℕ → View D → Place D
 place submitters workers v = record { submitters = submitters; workers = workers; root = false; view = v }
 
--- the place from which the parties are cut, where those below k are
+-- the place from which the parties are cut, if those below k are
 abbrev pub root : {D : Type 0} → ℕ → ℕ → ℕ → Place D
 root submitters workers k = record { submitters = submitters; workers = workers; root = true; view = new_party k }
 

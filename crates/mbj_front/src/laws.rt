@@ -11,7 +11,7 @@ use crate::seat::PartySeat;
 use crate::slot::Slot;
 use atomic_table::TableRule;
 
-/// A law: each step, made where it is allowed, leads from a lawful state to a lawful one.
+/// A law: each step, made if it is allowed, leads from a lawful state to a lawful one.
 pub fn steps_keep_the_front_lawful<J, D, R: Results<J, D>>()
     ensures { StepsKeepTheLaw R.owed }
 {}
@@ -38,7 +38,7 @@ pub fn new_fronts_are_empty<J, D, R: Results<J, D>>()
     ensures { NewFrontsAreEmpty R.owed }
 {}
 
-/// A law: where fewer parties are cut than there are, the next one is cut from the root's place, and the rule of the
+/// A law: if fewer parties are cut than there are, the next one is cut from the root's place, and the rule of the
 /// table still holds. The party has done nothing.
 pub fn cuts_keep_the_rule<J, D, R: Results<J, D>>()
     ensures { CutsKeepTheRule R.owed }

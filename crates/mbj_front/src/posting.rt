@@ -53,7 +53,7 @@ impl<J, D, R: Results<J, D>> SharedFront<J, D, R> {
         }
     }
 
-    /// `try_take`, which gives the result with its job, where that came back too.
+    /// `try_take`, which gives the result with its job, if that came back too.
     pub fn try_take_returned(&self, seat: &mut PartySeat<J, D>) -> Result<Returned<J, D>, u64>
         requires front { IsOf self.now seat.old }
         requires rest { (view_of seat.old).phase ≡ Rest }

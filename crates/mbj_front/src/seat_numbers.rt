@@ -23,7 +23,7 @@ impl<J, D> PartySeat<J, D> {
         self.out
     }
 
-    /// The cell of a submitter's earliest job that is out, or of its next job where none is out.
+    /// The cell of a submitter's earliest job that is out, or of its next job if none is out.
     pub fn first_cell(&self) -> u32
         requires { IsSubmitter self.now }
         ensures { result ≡ cell_of (view_of self.now).number (view_of self.now).handed }

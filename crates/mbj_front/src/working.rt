@@ -67,7 +67,7 @@ impl<J, D, R: Results<J, D>> SharedFront<J, D, R> {
         }
     }
 
-    /// The atomic step of a claim, which is allowed: where the word is `READY` it becomes that of the party's hand, and
+    /// The atomic step of a claim, which is allowed: if the word is `READY` it becomes that of the party's hand, and
     /// the seat takes the slot. Returns the word that it found.
     #[tactic(none)]
     fn claim_word(

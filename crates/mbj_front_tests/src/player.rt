@@ -29,7 +29,7 @@ pub(crate) struct Player<'a> {
     ghost numbered: { (part_of party).number ≡ number },
 }
 
-/// The party of a seat, which owns a share of the keys, where there are any.
+/// The party of a seat, which owns a share of the keys, if there are any.
 fn party_of<'a>(
     alloc: Global,
     seat: Seat,
@@ -69,7 +69,7 @@ fn join<'a>(
     Ok(())
 }
 
-/// The parties of the seats of a front, in their order, which own shares of the keys, where there are any.
+/// The parties of the seats of a front, in their order, which own shares of the keys, if there are any.
 pub(crate) fn players_of<'a>(
     alloc: Global,
     front: &'a Front,
@@ -109,7 +109,7 @@ impl Player<'_> {
         self.party.hunt(self.front, from)
     }
 
-    /// Claims a cell, where the front has it and the hand has room.
+    /// Claims a cell, if the front has it and the hand has room.
     pub(crate) fn claim(&mut self, cell: u32) -> Option<Claimed> {
         if cell >= self.front.cells() || self.party.hand() == HAND_ROOM {
             return None;
@@ -126,7 +126,7 @@ impl Player<'_> {
         true
     }
 
-    /// Posts a job of a submitter, where a cell is free for it.
+    /// Posts a job of a submitter, if a cell is free for it.
     pub(crate) fn posts(&mut self, job: Job) -> bool
         requires { Submits self.old.front.now self.old.party }
     {

@@ -123,7 +123,7 @@ impl Actor<'_> {
         is_result(&done, *len)
     }
 
-    /// Does its next act, where there is one. Returns whether that came to what it should.
+    /// Does its next act, if there is one. Returns whether that came to what it should.
     fn act<G: Gate>(&mut self, alloc: Global, gate: &G) -> bool {
         let Some((act, rest)) = self.acts.split_first() else {
             return true;

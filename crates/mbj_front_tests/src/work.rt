@@ -80,7 +80,7 @@ fn are_results_of_two_lists(results: &[Vec<Done>]) -> bool {
         && has_tag(only, HI_THERE)
 }
 
-/// Whether the two lists get their results where each has a manager of its own.
+/// Whether the two lists get their results if each has a manager of its own.
 fn are_done_apart<R: Threads + Sync>(rt: &R, alloc: Global) -> Result<bool, AllocError> {
     let results = run_private(rt, alloc, two_lists(alloc)?)?;
     Ok(are_results_of_two_lists(&results))

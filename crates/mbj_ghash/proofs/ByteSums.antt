@@ -146,7 +146,7 @@ module _ (g : ℕ → ℕ) (d : ℕ) (few : d ≤ 16) where
       ∙ sym (ap (λ (m : ℕ). times_power (8 * d) (bytes g m)) whole ∙ ap (times_power (8 * d)) (weighted-split (λ i. byte (g i)) k d)
       ∙ times_power-add (8 * d) (bytes g k) (times_power (8 * k) above))
 
-  -- where nothing leaves
+  -- if nothing leaves
   pub move_whole : ((i : ℕ) → i < d → g (16 - d + i) ≡ 0) → bytes (moved_up d g) 16 ≡ times_power (8 * d) (bytes g 16)
   move_whole none =
       let nothing : bytes (moved_out d g) 16 ≡ zeros 128 = out-bytes ∙ bytes-zero (λ i. g (16 - d + i)) d none in

@@ -81,7 +81,7 @@ take-padded (a ∷ p) n (suc m) h = ap (λ xs. a ∷ xs) (take-padded p n m (ome
 length-padded : (p : List Bool) (n m : ℕ) → length p + n ≡ m → length (p ++ zeros n) ≡ m
 length-padded p n m h = length-append p (zeros n) ∙ omega (arith, length-replicate n false)
 
--- the product by x, where there is room for it
+-- the product by x, if there is room for it
 times_x-padded : (p : List Bool) (n : ℕ) → length p + n ≡ 127 → times_x (p ++ zeros (suc n)) ≡ false ∷ (p ++ zeros n)
 unfolding times_x
 times_x-padded p n h =

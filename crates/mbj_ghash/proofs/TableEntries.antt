@@ -46,7 +46,7 @@ carried_byte g (suc j) small h =
 
 -- ---- bytes at places that may be none
 
--- the place d, or none where the bit c is 0
+-- the place d, or none if the bit c is 0
 abbrev place : ℕ → ℕ → ℕ
 place c d = c * d + (1 - c) * 128
 

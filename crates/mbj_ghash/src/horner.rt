@@ -1,5 +1,5 @@
 //! The value of a hash after blocks (SP 800-38D, 6.4, step 3). One block after another is added and multiplied by the subkey, which is
-//! Horner's rule. Where there are many, four blocks are multiplied by four powers of the subkey, and the sum of the products is reduced
+//! Horner's rule. If there are many, four blocks are multiplied by four powers of the subkey, and the sum of the products is reduced
 //! once.
 ghost use Rattle.std.specs.Prelude.{◌≡◌, ℕ, List, [], ◌∷◌};
 ghost use Rattle.std.specs.List.{flat_map};

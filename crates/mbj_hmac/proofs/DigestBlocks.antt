@@ -93,7 +93,7 @@ module _ (h : Chaining) (std : IsStandard h) where
       is' : k ≡ outer_left e.rest t
       is' = is ∙ ap (λ x. outer_left x t) rest
 
-      -- its block is read, where this isn't the digest's
+      -- its block is read, if this isn't the digest's
       pub read_led : (k ≡ d + 1 → ⊥) → led ≡ h.compress c (block_in h e d) → led ≡ h.compress c (block_before h (with_chains c n e) (e.rest - d))
       read_led apart next =
           let some : made_rounds_of e.form < e.rest - d = unmade e.form e.rest t k d (tied_turn r t e tied busy) is' apart (omega (arith, rest)) in

@@ -123,7 +123,7 @@ all_ready h m starts bits rests rests' turns es tied is ready i l busy =
 
 -- ---- turns
 
--- where the outer hash's first block isn't next, nothing is turned
+-- if the outer hash's first block isn't next, nothing is turned
 unturned : (h : Chaining) (e : HmacState) → (e.rest ≡ turn_of e → ⊥) → turned h e ≡ e
 unturned h e apart = go (is_turn e) refl
   where

@@ -66,7 +66,7 @@ module _ (h : Chaining) (std : IsStandard h) where
       ap (λ n. length (h.padding n)) bd ∙ ap length (std.pads (b + length d) room) ∙ length-padding_of b std.size (b + length d) in
       omega (arith, length-append (back ++ d) (h.padding (length (back ++ d))), piece_fill b std.size (length d) small)
 
-  -- where pads are, the outer one is a block
+  -- if pads are, the outer one is a block
   pub length-back : (form : Form) (ends : List ℕ) (len : ℕ) → length ends ≡ 4 * b
       → length (if has_pads form then take b (drop (b * (tail_blocks b len + 1)) ends) else []) ≡ b * (outer_rounds_of form - 1)
   length-back Plain ends len whole = omega arith

@@ -63,7 +63,7 @@ module _ (h : Chaining) where
   form_after zero e = refl
   form_after (suc k) e = form_after k (round h e) ∙ turned_form e
 
-  -- rounds are blocks, where the outer hash's first is not among them but at first
+  -- rounds are blocks, if the outer hash's first is not among them but at first
   pub rounds_are_blocks : (k : ℕ) (e : HmacState) → suc k ≤ reach_of e → after (round h) (suc k) e ≡ after (advanced h) (suc k) (turned h e)
   rounds_are_blocks zero e le = refl
   rounds_are_blocks (suc k) e le =

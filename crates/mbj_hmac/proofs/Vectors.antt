@@ -40,7 +40,7 @@ splat_is n i word h fits = ap (λ x. x % 2 ^ 32) (get_or-replicate n i word 0 h)
 pub splat64_is : (n i word : ℕ) → i < n → word < 2 ^ 64 → lane_at 64 (replicate n word) i ≡ word
 splat64_is n i word h fits = ap (λ x. x % 2 ^ 64) (get_or-replicate n i word 0 h) ∙ mod-eq_of_lt fits
 
--- a vector that is chosen where two others are the same
+-- a vector that is chosen if two others are the same
 pub where_equal_is : (w : Width) (xs ys zs bs : List ℕ) (n i : ℕ) → length xs ≡ n → length ys ≡ n → length zs ≡ n → length bs ≡ n
     → Each1 (Fits w) xs → Each1 (Fits w) ys → i < n
     → get_or (sel_l (map (top (hbits w)) (zip2 (λ a b. cond (eqb a b) (2 ^ bits w - 1) 0) xs ys)) zs bs) i 0 % 2 ^ bits w
@@ -83,7 +83,7 @@ none_set (true ∷ ms) zero none t = absurd (omega arith)
 none_set (false ∷ ms) zero none t = not_both t
 none_set (b ∷ ms) (suc i) none t = let none' : mask_l ms ≡ 0 = omega arith in none_set ms i none' t
 
--- where no bit of a comparison by t is set, it holds of no lanes
+-- if no bit of a comparison by t is set, it holds of no lanes
 pub none_told : (t : ℕ → ℕ → Bool) (xs ys : List ℕ) (n i : ℕ) → n ≤ 16 → length xs ≡ n → length ys ≡ n → i < n
     → mask_l (map (top 31) (zip2 (λ a b. cond (t a b) (2 ^ 32 - 1) 0) xs ys)) % 2 ^ 64 ≡ 0 → t (get_or xs i 0) (get_or ys i 0) ≡ true → ⊥
 none_told t xs ys n i few sx sy h clear holds =

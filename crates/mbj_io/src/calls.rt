@@ -69,7 +69,7 @@ impl Calls {
         self.fails.contains(&self.made)
     }
 
-    /// Counts the next call. It fails where it is listed, and where the caller refuses it.
+    /// Counts the next call. It fails if it is listed, and if the caller refuses it.
     pub fn count(&mut self, refused: bool) -> Result<(), Failed>
         ensures failed { IsErr result ↔ (IsTrue refused ⊎ IsListed self.old) }
         ensures after { self.new ≡ after_call self.old (is_err result) }

@@ -58,7 +58,7 @@ impl MemSource {
         rest
     }
 
-    /// How often it has failed: never, where no call is listed.
+    /// How often it has failed: never, if no call is listed.
     pub fn faults(&self) -> u64
         ensures value { result ≡ self.now.calls.faults }
         ensures none_listed { self.now.calls.fails ≡ [] → result ≡ 0 }
@@ -144,7 +144,7 @@ impl MemSink {
         &self.bytes
     }
 
-    /// How often it has failed: never, where no call is listed and room is left.
+    /// How often it has failed: never, if no call is listed and room is left.
     pub fn faults(&self) -> u64
         ensures value { result ≡ self.now.calls.faults }
         ensures none_listed { self.now.calls.fails ≡ []

@@ -27,7 +27,7 @@ impl Error for Failed {}
 /// }
 /// ```
 pub trait Source {
-    /// The bytes that are not yet read, where the source tells them.
+    /// The bytes that are not yet read, if the source tells them.
     ghost rest: { Self → Option (List ℕ) };
 
     /// How often the source has failed.
@@ -50,14 +50,14 @@ pub trait Source {
 
 /// Where bytes go.
 pub trait Sink {
-    /// The bytes that were taken, where the sink tells them.
+    /// The bytes that were taken, if the sink tells them.
     ghost held: { Self → Option (List ℕ) };
 
     /// How often the sink has failed.
     ghost faults: { Self → ℕ };
 
     /// Takes bytes off the front of `buf`, and returns how many: at most `buf.len()`, and at least
-    /// one where `buf` isn't empty.
+    /// one if `buf` isn't empty.
     ///
     /// [`Failed`] comes only where the count of faults rose in this call, or stands at its last
     /// value, and nothing is taken then. Every other call leaves the count as it was.

@@ -20,7 +20,7 @@ fn push<T>(ring: &mut Ring<T>, value: T) -> u32
 
 fn crosses<V: Send>(_value: &V) {}
 
-/// A ring may go to another thread where its values may.
+/// A ring may go to another thread if its values may.
 fn ring_crosses<T: Send>(ring: &Ring<T>) {
     crosses(ring);
 }

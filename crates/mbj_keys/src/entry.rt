@@ -32,7 +32,7 @@ impl KeyEntry {
         })
     }
 
-    /// Whether the entry is that of a key. Where the two keys are of one length every byte of both is looked at, and
+    /// Whether the entry is that of a key. If the two keys are of one length every byte of both is looked at, and
     /// neither a branch nor an index depends on one. It takes no memory.
     pub fn has_key(&self, key: &[u8]) -> bool
         ensures { IsTrue result ↔ (self.now.key ≡ key.now) }

@@ -78,7 +78,7 @@ impl Keys {
         self.sessions[n as usize].key()
     }
 
-    /// Learns the entry of session `n`, which is below the count. The session's key is expanded where no thread has put its
+    /// Learns the entry of session `n`, which is below the count. The session's key is expanded if no thread has put its
     /// entry into the cell. It doesn't wait: threads that race may each expand the key, and all learn the entry of one of
     /// them.
     ///
@@ -121,7 +121,7 @@ impl Keys {
         notes.notes[n as usize].entry(&self.sessions[n as usize])
     }
 
-    /// The schedule of a key, where the session is learnt and its entry has that key; else `None`. It takes no memory.
+    /// The schedule of a key, if the session is learnt and its entry has that key; else `None`. It takes no memory.
     pub fn schedule_for<'a>(
         &'a self,
         notes: &mut Notes,

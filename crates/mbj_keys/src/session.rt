@@ -89,9 +89,9 @@ impl SessionNote {
         self.is_learnt
     }
 
-    /// Learns the session's entry, and makes it where none is in its cell.
+    /// Learns the session's entry, and makes it if none is in its cell.
     ///
-    /// Returns `AllocError` for want of memory. It also does where the entry in the cell has another key: a cell can't
+    /// Returns `AllocError` for want of memory. It also does if the entry in the cell has another key: a cell can't
     /// promise that none has, so the keys are compared.
     pub(crate) fn learn(&mut self, alloc: Global, session: &Session) -> Result<(), AllocError>
         requires { IsOf session.now self.old }

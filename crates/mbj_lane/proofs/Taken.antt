@@ -23,14 +23,14 @@ module _ {E : Type 0} (rest : E → ℕ) where
   pub taken-at : (es : List E) (i : ℕ) (e : E) → IsFirst rest i es → e ≡ get_or es i e → taken rest es ≡ Some (e, remove es i)
   taken-at es i e first is = at_place es i e first.inside first.before is (ap rest is ∙ first.done e)
 
-  -- no entry, where each has a round left
+  -- no entry, if each has a round left
   pub taken-none : (es : List E) → ((k : ℕ) (d : E) → k < length es → 1 ≤ rest (get_or es k d)) → taken rest es ≡ None
   taken-none [] all = refl
   taken-none (x ∷ es) all =
       passed x es (all 0 x (omega arith))
       ∙ ap (option_map (λ t. (t.0, x ∷ t.1))) (taken-none es (λ k d l. all (suc k) d (omega arith)))
 
-  -- each entry up to place i has a round left, where those before it have one, and e, the entry there
+  -- each entry up to place i has a round left, if those before it have one, and e, the entry there
   pub passed-too : (es : List E) (i : ℕ) (e : E) → i < length es → ((k : ℕ) (d : E) → k < i → 1 ≤ rest (get_or es k d))
       → e ≡ get_or es i e → (rest e ≡ 0 → ⊥) → (k : ℕ) (d : E) → k < i + 1 → 1 ≤ rest (get_or es k d)
   passed-too es i e lt before is some k d l =

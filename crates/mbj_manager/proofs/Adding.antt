@@ -107,7 +107,7 @@ pub record IsAdded (r r' : RingState Cell) (ag ag' : List ℕ) (ls : LaneQueues)
 abbrev one_more : RingState Cell → Cell → List Cell → RingState Cell
 one_more r w vs = ring (r.values ++ w ∷ []) vs r.first
 
--- where the first open cell was written over and committed
+-- if the first open cell was written over and committed
 commit-one : (r : RingState Cell) (os : List Cell) (v w : Cell) → os ≡ v ∷ drop 1 os
     → ring (r.values ++ take 1 (set os 0 w)) (drop 1 (set os 0 w)) r.first ≡ one_more r w (drop 1 os)
 commit-one r [] v w e = cc
@@ -197,7 +197,7 @@ adds r v w vs place ag ls capacity y idle opened began room last =
       kept = added-kept r v w vs place ls capacity z others began room last;
     }) y
 
--- where the first open cell was begun and committed
+-- if the first open cell was begun and committed
 pub adds-committed : (r new : RingState Cell) (v w : Cell) (place : ℕ) (ag : List ℕ) (ls : LaneQueues) (capacity : ℕ) → IsHeld r ag ls capacity
     → map (ring_number r) ag ≡ [] → slice_get r.opened 0 ≡ Some v → w ≡ cell.Going (begun (job_in v)) → length r.values < CELLS
     → place ≡ (r.first + length r.values) % CELLS → new ≡ ring (r.values ++ take 1 (set r.opened 0 w)) (drop 1 (set r.opened 0 w)) r.first

@@ -79,7 +79,7 @@ at-from P x n [] a = absurd a
 at-from P x zero (y ∷ xs) a = a
 at-from P x (suc n) (y ∷ xs) a = at-from P x n xs a
 
--- ---- a job that enters a lane queue, which runs where it is full then
+-- ---- a job that enters a lane queue, which runs if it is full then
 
 -- what f tells of the courses stays
 record IsTiedAt {X : Type 0} (f : CourseState → X) (k : Kind) (lines : Kind → PlacedQueue) (cs : List CourseState) (d : QueueView) : Type 0 where

@@ -122,7 +122,7 @@ flush-length m = unchanged-flush (λ m. length m.left) (jobs-left cause.Flush) m
 
 -- ---- both
 
--- where there are jobs, the first of which has no stage left
+-- if there are jobs, the first of which has no stage left
 first-done : (left : List (List Pending)) → left ≢ [] → left_at 0 left ≡ [] → slice_get left 0 ≡ Some []
 first-done [] some done = absurd (some refl)
 first-done (ps ∷ left) some done = ap Some done

@@ -79,7 +79,7 @@ submitted-order found h = given-order (counted found h (entered h)) ∙ entered-
 abbrev pub Keeps : Call → ManagerState → Type 0
 Keeps c h = option_to_list (called c h).0 ++ (called c h).1.owed ≡ h.owed ++ map result_of (jobs_in c h)
 
--- the next cell lent where there is one
+-- the next cell lent if there is one
 abbrev pub opened_next : ManagerState → ManagerState
 opened_next h = if length h.owed == CELLS then h else with_open h (lent h)
 

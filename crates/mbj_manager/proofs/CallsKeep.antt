@@ -37,7 +37,7 @@ use Rattle.mbj_manager.proofs.GivingBack.{back-between}
 
 -- ---- what a flush gives
 
--- the earliest job is given back where it is finished
+-- the earliest job is given back if it is finished
 pub earliest-given : (ds : List Done) (left : List (List Pending)) (h : ManagerState) → ds ≢ [] → slice_get left 0 ≡ Some []
     → IsSome (given_at ds left h).0
 earliest-given [] left h owes done = absurd (owes refl)
@@ -45,7 +45,7 @@ earliest-given (d ∷ ds) [] h owes done = cc
 earliest-given (d ∷ ds) ([] ∷ left) h owes done = refl
 earliest-given (d ∷ ds) ((p ∷ ps) ∷ left) h owes done = cc
 
--- where no job is left a flush changes nothing
+-- if no job is left a flush changes nothing
 flushed-none : (m : Machine) → m.left ≡ [] → flushed m ≡ m
 unfolding flushed
 flushed-none m none = ap (λ (left : List (List Pending)). iterate (λ (m : Machine). flush_step_at (slice_get m.left 0) m) (stages_left left) m) none

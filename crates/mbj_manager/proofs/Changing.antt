@@ -4,7 +4,7 @@ use Rattle.std.specs.Prelude.{sum_by}
 use Rattle.std.proofs.lemmas.List.Sums.{sum_by-cons}
 use Rattle.mbj_manager.specs.Machine.Queues.{changed}
 
--- the item that is changed, also past the end, where f keeps the default
+-- the item that is changed, also past the end, if f keeps the default
 pub at-changed : {A : Type 0} (f : A → A) (d : A) → f d ≡ d → (n : ℕ) (xs : List A)
     → slice_index_or (changed f n xs) n d ≡ f (slice_index_or xs n d)
 at-changed f d e n [] = sym e
@@ -20,7 +20,7 @@ other-changed f d zero (suc m) (x ∷ xs) ne = refl
 other-changed f d (suc n) zero (x ∷ xs) ne = refl
 other-changed f d (suc n) (suc m) (x ∷ xs) ne = other-changed f d n m xs (λ e. ne (ap suc e))
 
--- what g sees of the items stays where f changes nothing of it
+-- what g sees of the items stays if f changes nothing of it
 pub map-unchanged : {A B : Type 0} (g : A → B) (f : A → A) → ((x : A) → g (f x) ≡ g x) → (n : ℕ) (xs : List A)
     → map g (changed f n xs) ≡ map g xs
 map-unchanged g f same n [] = refl

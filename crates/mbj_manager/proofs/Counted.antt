@@ -34,7 +34,7 @@ pub entered-count : (o : List Job) (h : ManagerState) (m n : ℕ) → with_count
 entered-count [] h m n = refl
 entered-count (j ∷ js) h m n = refl
 
--- a key counts once where it is expanded
+-- a key counts once if it is expanded
 pub count-one : (found b : Bool) (o : List Job) → 0 < length o → IfSome (slice_get o 0) (λ j. b ≡ counts_expansion found j)
     → (if b then 1 else 0) ≡ expanded_for found o
 count-one found b [] some is = absurd (omega arith)

@@ -24,7 +24,7 @@ stages-at left rounds n = elim (cases_lt n (length left)) [
   | inr past ↦ subst (All HasRounds) (sym (get_or_past left n [] past)) (All-nil HasRounds)
 ]
 
--- where the agenda is empty, what holds after each step holds between two calls
+-- if the agenda is empty, what holds after each step holds between two calls
 pub between-calls : (m : Machine) → IsInCourse m → m.agenda ≡ [] → IsBetweenCalls m
 between-calls m within none = record {
   agenda = none;

@@ -14,7 +14,7 @@ use Rattle.mbj_manager.specs.Inside.Standing.{IsLane, left_at}
 use Rattle.mbj_manager.proofs.Standing.{same-placed}
 use Rattle.mbj_manager.proofs.CourseEnds.{lanes-between}
 
--- a number above 0, less one, is n where it is n's successor
+-- a number above 0, less one, is n if it is n's successor
 earlier-number : (i n : ℕ) → cond {A = ℕ} (i == 0) 1 0 ≡ 0 → cond {A = ℕ} (i - 1 == n) 1 0 ≡ cond {A = ℕ} (i == suc n) 1 0
 earlier-number zero n later = cc
 earlier-number (suc i) n later = let e : suc i - 1 ≡ i = omega arith in rw (e, eqb-suc-suc) refl
@@ -27,7 +27,7 @@ earlier w = record { number = w.number - 1; rest = w.rest }
 abbrev pub without_earliest : List (List Pending) → Machine → Machine
 without_earliest left m = record m { left = left; lanes = λ k. renumbered (queue_for k m) }
 
--- where the job 0 isn't in a lane queue, its jobs have the numbers that they had, less one
+-- if the job 0 isn't in a lane queue, its jobs have the numbers that they had, less one
 times-earlier : (n : ℕ) (ws : List WaitingJob) → times_in 0 ws ≡ 0 → times_in n (map earlier ws) ≡ times_in (suc n) ws
 times-earlier n [] none = refl
 times-earlier n (w ∷ ws) none =

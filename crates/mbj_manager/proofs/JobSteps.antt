@@ -29,7 +29,7 @@ begun-by : (reason : Option Reason) (j : Job) → (before : List Step) × (befor
 begun-by None j = ([], refl)
 begun-by (Some reason) j = (steps_of j, append-nil (steps_of j))
 
--- of a course with nothing done they are all, or none where the job is refused
+-- of a course with nothing done they are all, or none if the job is refused
 pub begun-steps : (j : Job) → HasJobSteps (begun j)
 begun-steps j = let b = begun-by (verdict j) j in record { before = b.0; are = b.1 }
 

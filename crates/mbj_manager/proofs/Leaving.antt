@@ -26,11 +26,11 @@ stayers-rest ws = All-weaker (λ w. not (is_at_end w) ≡ true) (λ w. 1 ≤ w.r
     (λ w t. let ne : w.rest ≢ 0 = eqb-false w.rest 0 (not-true (is_at_end w) t) in omega arith) (stayers ws)
     (filter_passes (λ w. not (is_at_end w)) ws)
 
--- where one of a list leaves, one of a longer list leaves
+-- if one of a list leaves, one of a longer list leaves
 leaves-more : (w : WaitingJob) (ws : List WaitingJob) → 0 < length (leavers ws) → 0 < length (leavers (w ∷ ws))
 leaves-more w ws h = elim (cases_Bool (is_at_end w)) [ inl e ↦ rw e (omega arith) | inr e ↦ rw e h ]
 
--- the first of a list leaves where no round is left of it
+-- the first of a list leaves if no round is left of it
 leaves-first : (w : WaitingJob) (ws : List WaitingJob) → w.rest ≡ 0 → 0 < length (leavers (w ∷ ws))
 leaves-first w ws e = let t : is_at_end w ≡ true = eq-eqb w.rest 0 e in rw t (omega arith)
 

@@ -1,4 +1,4 @@
--- Where a flush gives nothing back nothing is owed.
+-- If a flush gives nothing back nothing is owed.
 use Rattle.std.proofs.Common.{◌≡◌, ◌≢◌, ◌∙◌, List, [], ◌∷◌, Option, None, Some, IsSome, slice_get, refl, ap, sym}
 use Rattle.mbj_types.specs.declared.done.Done.{Done}
 use Rattle.mbj_manager.specs.State.{ManagerState, after_get_completed, given_at}

@@ -67,7 +67,7 @@ pending-out c = ap (λ (j : Job). pending_at j c.left) (sized-left c.lengths c.j
 
 -- ---- a stage at once
 
--- where the first stage finishes at once, those in lanes are the later ones'
+-- if the first stage finishes at once, those in lanes are the later ones'
 now-next : (s : Stage) (j : Job) (ps : List Pending) → s ≡ stage.Now → in_lanes_next (pending_by s j ++ ps) ≡ in_lanes_next ps
 now-next stage.Now j ps e = refl
 now-next (stage.Lane k) j ps e = cc

@@ -253,11 +253,11 @@ not-given-at (d ∷ ds) [] h n = refl
 not-given-at (d ∷ ds) ([] ∷ left) h n = absurd (n refl)
 not-given-at (d ∷ ds) ((p ∷ ps) ∷ left) h n = refl
 
--- where the earliest job isn't finished nothing is given back
+-- if the earliest job isn't finished nothing is given back
 pub not-given : (h : ManagerState) → slice_get h.machine.left 0 ≢ Some [] → after_get_completed h ≡ (None, h)
 not-given h n = not-given-at h.owed h.machine.left h n
 
--- ---- the cell of the earliest job, where that job is finished
+-- ---- the cell of the earliest job, if that job is finished
 
 there-is : (vs : List Cell) → slice_get (map pending (map course_in vs)) 0 ≡ Some [] → (v : Cell) × (slice_get vs 0 ≡ Some v)
 there-is [] done = cc

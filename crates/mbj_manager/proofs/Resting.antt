@@ -15,7 +15,7 @@ rests at (suc steps) m e =
     let stays : stepped at m ≡ m = ap (λ a. stepped_at at a m) e in
     ap (after_steps at steps) stays ∙ rests at steps m e
 
--- where the earliest job is finished a flush step runs nothing
+-- if the earliest job is finished a flush step runs nothing
 flush-step-rests : (left : List (List Pending)) (m : Machine) → slice_index_or left 0 [] ≡ [] → flush_step_at (slice_get left 0) m ≡ m
 flush-step-rests [] m done = refl
 flush-step-rests (ps ∷ left) m done = ap (λ ps. flush_step_at (Some ps) m) done

@@ -144,7 +144,7 @@ either : (at : Cause) (k : Kind) (lanes : Kind → Queue) (b : Bool) (d : QueueV
 either at k lanes true d = run-seen at k lanes d
 either at k lanes false d = refl
 
--- a job that joins, and the run of the lane queue where it is full then
+-- a job that joins, and the run of the lane queue if it is full then
 pub enters-seen : (at : Cause) (k : Kind) (lanes : Kind → Queue) (n : ℕ) (a : EntryView) (d : QueueView)
     → machine_at k lanes (ran_if_full at (lanes_of k) (joined_by n a d)) ≡ joined at k n a.rounds (machine_at k lanes d)
 enters-seen at k lanes n a d =

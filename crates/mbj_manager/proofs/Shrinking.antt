@@ -1,4 +1,4 @@
--- What holds of the stages left of each job, and still holds where some are done, stays through a course and a flush.
+-- What holds of the stages left of each job, and still holds if some are done, stays through a course and a flush.
 use Rattle.std.proofs.Common.{ℕ, ◌==◌, zero, suc, List, [], ◌∷◌, ◌++◌, length, Option, None, Some, slice_get, slice_index_or}
 use Rattle.std.proofs.lemmas.Bool.{cond_both}
 use Rattle.mbj_types.specs.declared.kind.Kind.{Kind}

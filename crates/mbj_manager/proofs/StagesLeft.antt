@@ -29,7 +29,7 @@ length-without_first : (ps : List Pending) → 1 ≤ length ps → length (drop 
 length-without_first [] some = absurd (omega arith)
 length-without_first (p ∷ ps) some = omega arith
 
--- each stage that is done is one less, where the jobs have this many
+-- each stage that is done is one less, if the jobs have this many
 pub fewer-stages : (ns : List ℕ) (left : List (List Pending)) → ((n : ℕ) → times n ns ≤ length (left_at n left))
     → stages_left (stage_done ns left) + length ns ≡ stages_left left
 fewer-stages [] left some = omega arith

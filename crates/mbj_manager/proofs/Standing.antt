@@ -22,7 +22,7 @@ same-placed m after i n same [] placed = λ k. same k ∙ placed k
 same-placed m after i n same (at_once ∷ left) placed = placed
 same-placed m after i n same (in_lanes k rest ∷ left) placed = (same k ∙ placed.0, λ j ne. same j ∙ placed.1 j ne)
 
--- a job stands as it did where its places and its stages are the same
+-- a job stands as it did if its places and its stages are the same
 pub same-stands : (m after : Machine) (n : ℕ)
     → ((j : Kind) → times_in n (queue_for j after).waiting ≡ times_in n (queue_for j m).waiting)
     → left_at n after.left ≡ left_at n m.left → times n after.agenda ≡ times n m.agenda → Stands m n → Stands after n

@@ -57,7 +57,7 @@ longer-filled k n rest m lane some =
       blocks = lane.blocks;
     }
 
--- where it isn't full it is as it is after each step
+-- if it isn't full it is as it is after each step
 not-full : (k : Kind) (l : Queue) → IsFilled k l → length l.waiting ≢ lanes_of k → IsLane k l
 not-full k l filled ne = record { few = (let room = filled.room in omega arith); rests = filled.rests; blocks = filled.blocks }
 
@@ -96,7 +96,7 @@ grown-ready k n rest left m taken next =
       ];
     }
 
--- a job joins the lane queue of its next stage, which runs where it is full
+-- a job joins the lane queue of its next stage, which runs if it is full
 joins : (at : Cause) (k : Kind) (n rest : ℕ) (left : List Pending) (m : Machine) → IsTaken n m
     → left_at n m.left ≡ in_lanes k rest ∷ left → Follows (joined at k n rest m) m
 joins at k n rest left m taken next =

@@ -13,7 +13,7 @@ use Rattle.mbj_manager.specs.Calls.{Call, after_calls, called, given_back, submi
 blanks-more : (os : List Job) (k m : ℕ) → k ≡ m + 1 → (os ++ blank ∷ []) ++ replicate m blank ≡ os ++ replicate k blank
 blanks-more os k m e = append_assoc os (blank ∷ []) (replicate m blank) ∙ ap (λ (n : ℕ). os ++ replicate n blank) (let s : suc m ≡ k = omega (arith, e) in s)
 
--- where fewer are open than are wanted, one more blank job leads to the same
+-- if fewer are open than are wanted, one more blank job leads to the same
 pub one-more-blank : (n : ℕ) (h : ManagerState) → length h.opened < min n (CELLS - length h.owed)
     → after_get_next_burst n (with_blanks 1 h) ≡ after_get_next_burst n h
 one-more-blank n h few =
@@ -21,7 +21,7 @@ one-more-blank n h few =
     ap (λ (os : List Job). record h { opened = os })
     (blanks-more h.opened (w - length h.opened) (w - length (h.opened ++ blank ∷ [])) (omega (arith, few, length-append h.opened (blank ∷ []))))
 
--- where as many are open as are wanted, nothing changes
+-- if as many are open as are wanted, nothing changes
 pub no-more-blanks : (n : ℕ) (h : ManagerState) → min n (CELLS - length h.owed) ≤ length h.opened → after_get_next_burst n h ≡ h
 no-more-blanks n h all =
     let none : min n (CELLS - length h.owed) - length h.opened ≡ 0 = omega (arith, all) in
@@ -111,7 +111,7 @@ pub flushed-end : (h h1 h0 : ManagerState) (ds out out0 : List Done) → Flushed
 flushed-end h h1 h0 ds out out0 so is same =
     subst (λ (g : ManagerState). FlushesEach ds h0 g) (sym same) (subst (λ (es : List Done). FlushesEach es h0 h) (same-rest out0 so.given ds (sym so.is ∙ is)) so.each)
 
--- what a submission gives back where a job is open
+-- what a submission gives back if a job is open
 pub submits : (os : List Job) (h : ManagerState) → 0 < length os → submitted_at false os h ≡ after_submit h
 submits [] h some = absurd (omega (arith, some))
 submits (j ∷ os) h some = refl

@@ -38,7 +38,7 @@ abbrev pub IsFinished : Cell → Type 0
 IsFinished (Open j) = ⊥
 IsFinished (Going c) = stage_of c ≡ stage.Finished
 
--- the result that a cell has, where one is given back in it
+-- the result that a cell has, if one is given back in it
 abbrev pub given_by : Bool → Cell → Option Done
 given_by false v = None
 given_by true v = Some (owed (course_in v))

@@ -38,7 +38,7 @@ new_manager = record {
 
 -- ---- get_next
 
--- the job that is lent: the first open one, or a blank one where none is open
+-- the job that is lent: the first open one, or a blank one if none is open
 abbrev pub lent : ManagerState → Job
 lent h = slice_index_or h.opened 0 blank
 
@@ -70,7 +70,7 @@ after_get_next_burst n h = with_blanks (min n (CELLS - length h.owed) - length h
 abbrev pub renumbered : Queue → Queue
 renumbered l = record l { waiting = map (λ (w : WaitingJob). record w { number = w.number - 1 }) l.waiting }
 
--- the earliest job's result is given back where that job is finished
+-- the earliest job's result is given back if that job is finished
 abbrev pub given_at : List Done → List (List Pending) → ManagerState → Option Done × ManagerState
 given_at (d ∷ ds) ([] ∷ left) h =
     (Some d, record h { owed = ds; jobs = drop 1 h.jobs; machine = record h.machine { left = left; lanes = λ k. renumbered (queue_for k h.machine) } })
@@ -111,7 +111,7 @@ abbrev pub expanded_for : Bool → List Job → ℕ
 expanded_for found [] = 0
 expanded_for found (j ∷ js) = if counts_expansion found j then 1 else 0
 
--- the state g, with the key of the job that was the first open one in h counted where it is expanded
+-- the state g, with the key of the job that was the first open one in h counted if it is expanded
 abbrev pub counted : Bool → ManagerState → ManagerState → ManagerState
 counted found h g = record g { expansions = (h.expansions + expanded_for found h.opened) % count_end }
 
@@ -138,6 +138,6 @@ after_flush h = after_get_completed (record h { machine = flushed h.machine })
 
 -- ---- room for a job
 
--- where no cell is left, the earliest job is flushed
+-- if no cell is left, the earliest job is flushed
 abbrev pub after_making_room : ManagerState → Option Done × ManagerState
 after_making_room h = if length h.owed == CELLS then after_flush h else (None, h)

@@ -19,7 +19,7 @@ pub told-kinds : {A : Type 0} (none : A) (f : Kind → A) (k : Kind) → told no
 told-kinds none f kind.Cbc128 = refl
 told-kinds none f _ = refl
 
--- the lanes of each kind, where they are listed in the order of the kinds
+-- the lanes of each kind, if they are listed in the order of the kinds
 abbrev pub listed : List Queue → Kind → Queue
 listed lanes = told idle_queue lanes
 

@@ -13,7 +13,7 @@ abbrev pub range_if : Bool → Job → ℕ × ℕ
 range_if true j = (j.cipher_off, j.cipher_len)
 range_if false j = (0, 0)
 
--- that of a course: empty where the job is refused or has no cipher
+-- that of a course: empty if the job is refused or has no cipher
 abbrev pub range_in : CourseState → ℕ × ℕ
 range_in c = range_if (uses_key c.reason c.job.cipher) c.job
 
@@ -26,7 +26,7 @@ abbrev pub written_by : Status → Job → ℕ × ℕ
 written_by status.Ok j = range_if (not (is_null_cipher j.cipher)) j
 written_by (status.InvalidArgs reason) j = (0, 0)
 
--- that of the earliest job, where one is submitted and not given back
+-- that of the earliest job, if one is submitted and not given back
 abbrev pub first_range_at : List Done → List Job → Option (ℕ × ℕ)
 first_range_at (d ∷ ds) (j ∷ js) = Some (written_by d.status j)
 first_range_at ds js = None

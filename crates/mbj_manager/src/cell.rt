@@ -44,7 +44,7 @@ impl CellContents {
 }
 
 /// A cell of a manager: a job that is being filled, or the course of one that is submitted. It is made once, and used for one job after
-/// another. Where a cell is moved, its job stays where it is.
+/// another. If a cell is moved, its job stays where it is.
 #[derive(Drop)]
 pub struct Cell {
     contents: Box<CellContents>,
@@ -153,7 +153,7 @@ impl Cell {
         run_nows(self.course_mut())
     }
 
-    /// The range of the packet that the job's cipher writes, as its offset and its length: empty where the job is refused or has no cipher.
+    /// The range of the packet that the job's cipher writes, as its offset and its length: empty if the job is refused or has no cipher.
     pub(crate) fn range(&self) -> (u32, u32)
         requires { IsGoing self.now }
         ensures { result ≡ range_in (course_in self.now) }

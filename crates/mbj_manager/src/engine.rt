@@ -63,7 +63,7 @@ impl Model for Engine {
     ghost invariant = { λ w. IsHeld w.ring w.agenda.places.items w.queues.value (vec_capacity w.agenda.places) };
 }
 
-/// Does what finishes at once in the course at a place, and goes on: the course joins the lane queue of its next stage, which runs where it
+/// Does what finishes at once in the course at a place, and goes on: the course joins the lane queue of its next stage, which runs if it
 /// is full then. The job stands in no agenda meanwhile.
 fn go_on(
     ring: &mut CellRing,
@@ -131,7 +131,7 @@ impl Engine {
         self.ring.open_with(filled);
     }
 
-    /// Opens a cell with a blank job, where none is open.
+    /// Opens a cell with a blank job, if none is open.
     pub(crate) fn open_first(&mut self)
         requires { length self.old.owed < CELLS }
         ensures { self.new ≡ with_open self.old (lent self.old) }
@@ -275,7 +275,7 @@ impl Engine {
         range_of_first(&mut self.ring)
     }
 
-    /// Gives the earliest job back where it is finished.
+    /// Gives the earliest job back if it is finished.
     pub(crate) fn give(&mut self) -> Option<Done>
         requires { self.old.machine.agenda ≡ [] }
         ensures result { result ≡ (after_get_completed self.old).0 }
@@ -298,7 +298,7 @@ impl Engine {
         self.ring.pop()
     }
 
-    /// Gives the earliest job back where it is finished: its cell changes places with a blank one. Returns whether it is.
+    /// Gives the earliest job back if it is finished: its cell changes places with a blank one. Returns whether it is.
     pub(crate) fn give_into(&mut self, given: &mut Cell) -> bool
         requires idle { self.old.machine.agenda ≡ [] }
         requires blank { given.old ≡ cell.Open blank }

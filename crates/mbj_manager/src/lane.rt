@@ -56,7 +56,7 @@ fn leave<K: JobKernel>(queue: &mut LaneQueue<K>, ring: &mut CellRing, agenda: &m
     }
 }
 
-/// The lane queue runs for its least rest, within a submit, where all its lanes are occupied, or within a flush; and those whose rounds are
+/// The lane queue runs for its least rest, within a submit, if all its lanes are occupied, or within a flush; and those whose rounds are
 /// done leave. The run goes into the counts of that call.
 pub(crate) fn run_within<K: JobKernel>(
     cause: Cause,
@@ -82,7 +82,7 @@ pub(crate) fn run_within<K: JobKernel>(
     }
 }
 
-/// The course at a place goes into the lane queue, which runs where it is full then.
+/// The course at a place goes into the lane queue, which runs if it is full then.
 pub(crate) fn enter<K: JobKernel>(
     cause: Cause,
     queue: &mut LaneQueue<K>,

@@ -112,7 +112,7 @@ impl LaneQueues {
         })
     }
 
-    /// The course at a place goes into the lane queue of a kind, which runs where it is full then.
+    /// The course at a place goes into the lane queue of a kind, which runs if it is full then.
     pub(crate) fn enter(
         &mut self,
         kind: Kind,

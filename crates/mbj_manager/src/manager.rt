@@ -112,7 +112,7 @@ impl Manager {
         })
     }
 
-    /// Lends the first open job, to be filled: a blank one where none was open, else that one as it was written. What is
+    /// Lends the first open job, to be filled: a blank one if none was open, else that one as it was written. What is
     /// written there is the first open job.
     ///
     /// Returns `RingFull` exactly where `CELLS` jobs are submitted and not given back; nothing changes then.
@@ -137,7 +137,7 @@ impl Manager {
         self.engine.len() == CELLS
     }
 
-    /// Where no cell is left, flushes the earliest job and gives it back.
+    /// If no cell is left, flushes the earliest job and gives it back.
     ///
     /// Returns `None` exactly where there is a cell; nothing changes then.
     pub fn make_room(&mut self) -> Option<Done>
@@ -179,8 +179,8 @@ impl Manager {
         self.engine.open_job(i)
     }
 
-    /// Submits the first open job as it is then. Its stages are done as far as lanes run for it; then the earliest job is given back, where
-    /// it is finished. The job's key is expanded, or, for CBC encryption, counted as expanded, where the job is accepted and has a cipher.
+    /// Submits the first open job as it is then. Its stages are done as far as lanes run for it; then the earliest job is given back, if
+    /// it is finished. The job's key is expanded, or, for CBC encryption, counted as expanded, if the job is accepted and has a cipher.
     ///
     /// Returns `None` exactly where, after that, the earliest job isn't finished.
     pub fn submit(&mut self) -> Option<Done>
@@ -197,7 +197,7 @@ impl Manager {
         self.submit_by(None)
     }
 
-    /// Does what `submit` does. Where the notes know an entry of the job's session, and its key is the job's, the job's key isn't expanded
+    /// Does what `submit` does. If the notes know an entry of the job's session, and its key is the job's, the job's key isn't expanded
     /// for it alone; else all is as by `submit`. So no result depends on the session.
     pub fn submit_in(&mut self, keys: &Keys, notes: &mut Notes) -> Option<Done>
         requires is_open { 0 < length self.old.opened }
@@ -217,7 +217,7 @@ impl Manager {
         self.submit_by(found)
     }
 
-    /// The schedule of the first open job's key, where the notes know an entry of the job's session with this key.
+    /// The schedule of the first open job's key, if the notes know an entry of the job's session with this key.
     fn find<'a>(&mut self, keys: &'a Keys, notes: &mut Notes) -> Option<&'a Schedule>
         requires is_open { 0 < length self.old.opened }
         requires notes { AreOf keys.now notes.old }
@@ -294,7 +294,7 @@ impl Manager {
         self.expansions
     }
 
-    /// Gives the earliest job back where it is finished, and runs nothing.
+    /// Gives the earliest job back if it is finished, and runs nothing.
     ///
     /// Returns `None` exactly where no job is submitted and not given back, or the earliest isn't finished; nothing
     /// changes then.

@@ -106,7 +106,7 @@ claim-is jobs w s cell job r q x full cells given number finishes is_full is_roo
     ∙ sym (if-apart (length (hand w r)) ring.CELLS (line.ClaimFull w ∷ [], r) (claim_of w (first_ready r.core (cells_out r.core s)) r)
     (λ e. is_room (ap length (sym is_full) ∙ e)))
 
--- where the submitter has no job that is ready
+-- if the submitter has no job that is ready
 pub no-claim-is : (jobs : List Job) (w s : ℕ) (r q : Replaying) (full : List ℕ) → hand w r ≡ full → length full ≢ ring.CELLS → first_ready r.core (cells_out r.core s) ≡ None
     → q ≡ r → ◌≡◌ {A = Replayed} (line.Claim w None ∷ [], q) (told jobs (command.Claim w s) r)
 no-claim-is jobs w s r q full is_full is_room is_none same =
@@ -125,7 +125,7 @@ post-is jobs s n job r q next is_job room state =
     ∙ ap (λ o. post_of s n o r) (sym is_job)
     ∙ ap (λ (m : ℕ). post_of s m (slice_get jobs m) r) next
 
--- the numbers stay where a cell's copy is taken
+-- the numbers stay if a cell's copy is taken
 pub numbers-stay : (posted : List Posted) (cell : ℕ) (z taken : Posted) → slice_get posted cell ≡ Some z → taken.number ≡ z.number
     → map (λ x. x.number) (set posted cell taken) ≡ map (λ x. x.number) posted
 numbers-stay posted cell z taken at same =

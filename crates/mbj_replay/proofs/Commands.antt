@@ -59,7 +59,7 @@ all-hold submitters workers f h each kept = λ w x at. subst (Holds x) (sym (kep
 -- ---- the stock
 
 module _ {jobs : List Job} {submitters : ℕ} {nexts : List ℕ} {unposted : List (Option Unposted)} {posted : List Posted} where
-  -- where no jobs are new in the cells
+  -- if no jobs are new in the cells
   stock-kept : (f h : FrontState Job Done) → HasStock jobs submitters nexts unposted posted f.cells → KeepsJobs f h
       → HasStock jobs submitters nexts unposted posted h.cells
   stock-kept f h stock kept = record {
@@ -71,7 +71,7 @@ module _ {jobs : List Job} {submitters : ℕ} {nexts : List ℕ} {unposted : Lis
     each_ready = λ c job x at there. stock.each_ready c job x at (kept c job there);
   }
 
-  -- where a cell's job is claimed, and its copy is taken
+  -- if a cell's job is claimed, and its copy is taken
   stock-claimed : (f h : FrontState Job Done) (cell : ℕ) (taken : Posted)
       → HasStock jobs submitters nexts unposted posted f.cells → KeepsJobs f h → ((job : Job) → h.cells cell ≢ ready job)
       → HasStock jobs submitters nexts unposted (set posted cell taken) h.cells
@@ -86,7 +86,7 @@ module _ {jobs : List Job} {submitters : ℕ} {nexts : List ℕ} {unposted : Lis
         (λ apart before. stock.each_ready c job x before (kept c job there));
   }
 
-  -- where a submitter's next job is posted, and its copy goes to the cell
+  -- if a submitter's next job is posted, and its copy goes to the cell
   stock-posted : (f h : FrontState Job Done) (s n cell : ℕ) (job : Job) (left : Option Unposted) (x : Posted)
       → HasStock jobs submitters nexts unposted posted f.cells → s < submitters → slice_get nexts s ≡ Some n → n < length jobs → x.copy ≡ Some job
       → h.cells cell ≡ ready job → ((i : ℕ) → i ≢ cell → h.cells i ≡ f.cells i)

@@ -21,7 +21,7 @@ use Rattle.mbj_replay.specs.Inside.Giving.{core_after}
 abbrev pub Entry : Type 0
 Entry = ℕ × Done
 
--- where the cells and the results of a hand, from which one may have been taken, are those of these entries, the one
+-- if the cells and the results of a hand, from which one may have been taken, are those of these entries, the one
 -- that was taken is the first of them
 pub first-taken : (given : Option Entry) (cells : List ℕ) (results : List Done) (hand : List Entry)
     → option_to_list (option_map (λ t. t.0) given) ++ cells ≡ map (λ e. e.0) hand
@@ -66,7 +66,7 @@ results-kept g h cell x is others was i d has = dite (ℕ_discrete i cell)
 abbrev pub finish-event : ℕ → Option Entry → Option Answered
 finish-event p given = option_map (λ e. (finish p e.0 e.1, carried_out)) given
 
--- the party's first entry is finished, where there is one to finish
+-- the party's first entry is finished, if there is one to finish
 pub record Finishes (core new : CoreState) (p : ℕ) (given : Option Entry) (rest : List Entry) (g h : FrontState Job Done) : Type 0 where
   pub front : StandsFor new h
   pub run : Run result_of core.submitters core.workers g (option_to_list (finish-event p given)) h

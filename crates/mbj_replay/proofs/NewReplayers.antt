@@ -54,7 +54,7 @@ left-of : (jobs : List Job) → jobs_left (map with_copy jobs) ≡ jobs
 left-of [] = refl
 left-of (job ∷ jobs) = ap (λ (l : List Job). job ∷ l) (left-of jobs)
 
--- where none is posted, all are left
+-- if none is posted, all are left
 pub all-left : (jobs : List Job) (unposted : List (Option Unposted)) → unposted ≡ map with_copy jobs → jobs_left unposted ≡ jobs
 all-left jobs unposted left = ap jobs_left left ∙ left-of jobs
 

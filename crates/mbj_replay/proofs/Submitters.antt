@@ -109,11 +109,11 @@ collect-sizes c s sizes = record {
   outs = length-set c.outs s _ ∙ sizes.outs;
 }
 
--- what the cell of the submitter's earliest job that is out holds, where one is out
+-- what the cell of the submitter's earliest job that is out holds, if one is out
 abbrev pub earliest_out : CoreState → ℕ → Option (Cell Job Done)
 earliest_out c s = if out_of c s == 0 then None else cell_in c (first_cell c s)
 
--- where none is out there is no earliest one
+-- if none is out there is no earliest one
 earliest-none : (c : CoreState) (s : ℕ) → out_of c s ≡ 0 → earliest_out c s ≡ None
 earliest-none c s none = if-same (out_of c s) 0 None (cell_in c (first_cell c s)) none
 

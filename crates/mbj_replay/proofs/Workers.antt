@@ -139,7 +139,7 @@ gives jobs r f w o m st near at order others =
     subst (λ (cells : List ℕ). Ends jobs r f w (first_with cells o)) (sym (hand-is jobs r f w st near))
     (ends jobs r f w (first_with (map (λ e. e.0) (f.seats (party w r)).hand) o) first.0 m st near first.1 at first.2 others)
 
--- where a worker's manager is another, the others owe as before
+-- if a worker's manager is another, the others owe as before
 others-owe : (r : Replaying) (f : FrontState Job Done) (w : ℕ) (m : ManagerState) → EachOwes r f
     → (v : ℕ) (x : ManagerState) → v ≢ w → slice_get (set r.managers w m) v ≡ Some x → Owes r.core.submitters f v x
 others-owe r f w m each v x apart at =

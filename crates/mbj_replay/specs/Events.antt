@@ -22,7 +22,7 @@ abbrev pub ResultIs : List Job → ℕ → Done → Type 0
 ResultIs jobs n d = option_map result_of (slice_get jobs n) ≡ Some d
 
 -- A line tells of an event by the party that the line names, about the job that it names; worker w is the party submitters + w.
--- Or it tells of none: nothing happens where a submitter has no job to post, and where a worker has a full hand, or has no job
+-- Or it tells of none: nothing happens if a submitter has no job to post, and if a worker has a full hand, or has no job
 -- to claim or to finish.
 abbrev pub Tells : List Job → ℕ → ReplayLine → Option Answered → Type 0
 Tells jobs submitters (line.Post s n) (Some (post t job, carried_out)) = (t ≡ s) × (slice_get jobs n ≡ Some job)

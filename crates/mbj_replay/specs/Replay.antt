@@ -61,7 +61,7 @@ with_post s n job r = record r {
   numbers = set r.numbers (next_cell r.core s) n;
 }
 
--- where there is no job n, there is nothing to post; where all cells of the submitter are out, the job stays the next one
+-- if there is no job n, there is nothing to post; if all cells of the submitter are out, the job stays the next one
 abbrev pub post_of : ℕ → ℕ → Option Job → Replaying → Replayed
 post_of s n None r = (line.PostEnd s ∷ [], r)
 post_of s n (Some job) r =
@@ -69,7 +69,7 @@ post_of s n (Some job) r =
 
 -- ---- what a worker's manager gives back
 
--- it goes into the first cell of the worker's hand, whose job is finished so; its number, where there is one, is told
+-- it goes into the first cell of the worker's hand, whose job is finished so; its number, if there is one, is told
 abbrev pub finish_told : (Option ℕ → List ReplayLine) → ℕ → List ℕ → Option Done → Replaying → Replayed
 finish_told lines w (cell ∷ cells) (Some d) r =
     (lines (Some (cell_number r cell)), record r { core = finished r.core (party w r) cell d })
@@ -103,7 +103,7 @@ claim_of w (Some found) r =
 
 -- ---- collect
 
--- the submitter's earliest job that is out is handed out where its cell holds a result
+-- the submitter's earliest job that is out is handed out if its cell holds a result
 abbrev pub collect_of : ℕ → Option (Cell Job Done) → Replaying → Replayed
 collect_of s (Some (done d)) r =
     (line.Collect s (cell_number r (first_cell r.core s)) d ∷ [], record r { core = with_result_collected r.core s })

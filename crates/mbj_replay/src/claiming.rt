@@ -50,7 +50,7 @@ fn try_claim(core: &mut Core, p: u32, cell: u32) -> bool
 }
 
 /// Claims the earliest job that a submitter has out and no party has claimed, and returns its cell. `None` exactly
-/// where there is none; then nothing changes.
+/// if there is none; then nothing changes.
 pub(crate) fn claim_earliest(core: &mut Core, p: u32, s: u32) -> Option<u32>
     requires party { p < core.old.submitters + core.old.workers }
     requires submitter { s < core.old.submitters }
@@ -69,7 +69,7 @@ pub(crate) fn claim_earliest(core: &mut Core, p: u32, s: u32) -> Option<u32>
     None
 }
 
-/// Finishes the job of a cell, where there is a result, and returns that cell.
+/// Finishes the job of a cell, if there is a result, and returns that cell.
 pub(crate) fn finish_given(core: &mut Core, p: u32, given: Option<(u32, Done)>) -> Option<u32>
     requires party { p < core.old.submitters + core.old.workers }
     requires held { IfSome given (λ g. HasHand core.old g.0 p g.1) }

@@ -44,7 +44,7 @@ impl Posted {
     }
 }
 
-/// What a command prints: a line, and, where a claim led to a finish, the line of that.
+/// What a command prints: a line, and, if a claim led to a finish, the line of that.
 type Told = (ReplayLine, Option<ReplayLine>);
 
 /// A front, a manager for each worker, and the jobs of a file, which the commands of a script drive.
@@ -60,7 +60,7 @@ pub(crate) struct Replayer {
     posted: Vec<Posted>,
 }
 
-/// Each job with a copy, where none is posted.
+/// Each job with a copy, if none is posted.
 fn with_copies(alloc: Global, jobs: Vec<Job>) -> Result<Vec<Option<Unposted>>, AllocError>
     ensures { IfOk result (λ unposted. unposted.items ≡ map with_copy jobs.items) }
 {
@@ -115,7 +115,7 @@ fn post_entry(core: &mut Core, s: u32, entry: &mut Option<Unposted>) -> Job
     }
 }
 
-/// The line of a finish that a claim led to, where it led to one.
+/// The line of a finish that a claim led to, if it led to one.
 fn finish_line(w: u32, job: Option<u32>) -> Option<ReplayLine>
     ensures { option_to_list result ≡ map (λ n. ReplayLine.Finish w (Some n)) (option_to_list job) }
 {
@@ -164,7 +164,7 @@ impl Replayer {
         })
     }
 
-    /// The number of the job in a cell, where there is a cell.
+    /// The number of the job in a cell, if there is a cell.
     fn number_at(&self, cell: Option<u32>) -> Option<u32>
         requires { IfSome cell (λ c. c < length self.now.posted.items) }
         ensures { result ≡ option_map (cell_number (state_of self.now)) cell }
@@ -173,7 +173,7 @@ impl Replayer {
         Some(self.posted[cell as usize].number)
     }
 
-    /// A submitter posts its next job. Where all its cells hold jobs that are out, that job stays the next one.
+    /// A submitter posts its next job. If all its cells hold jobs that are out, that job stays the next one.
     fn post(&mut self, s: u32) -> ReplayLine
         ghost jobs: { List Job }
         requires playing { IsPlaying jobs self.old }

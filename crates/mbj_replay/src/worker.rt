@@ -19,7 +19,7 @@ pub(crate) struct Worker {
     ghost paired: { length hand.items ≡ length manager.owed },
 }
 
-/// The first cell of a hand leaves it with the result that goes there, where there is a result.
+/// The first cell of a hand leaves it with the result that goes there, if there is a result.
 fn take_first(hand: &mut Vec<u32>, done: Option<Done>) -> Option<(u32, Done)>
     requires { IfSome done (λ _. 0 < length hand.old.items) }
     ensures taken { result ≡ first_with hand.old.items done }

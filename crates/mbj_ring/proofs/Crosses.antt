@@ -1,4 +1,4 @@
--- The owner of the cells may cross threads where its values may.
+-- The owner of the cells may cross threads if its values may.
 use Rattle.std.specs.Prelude.{ℕ, ◌+◌, List, [], ◌∷◌, length, Option, Some, None}
 use Rattle.std.specs.Allocator.{array_of}
 use Rattle.std.specs.Mem.{type_size}

@@ -40,7 +40,7 @@ use Rattle.mbj_ring.specs.Inside.Ownership.{cell, cells, cells_own, may_free}
 use Rattle.mbj_ring.proofs.cells.Cells.TheLaws.{lowered, lowers}
 use Rattle.mbj_ring.specs.contracts.cells.Cells as C
 
--- where the product fits a word, the count is zero or the size fits too
+-- if the product fits a word, the count is zero or the size fits too
 pub times_capped : (i k : ℕ) → i * k < 2 ^ 64 → i * capped k ≡ i * k
 times_capped zero k fits = zero-mul (capped k) ∙ sym (zero-mul k)
 times_capped (suc i) k fits = let step = suc-mul i k in ap (λ (j : ℕ). suc i * j) (capped_is k (omega arith))

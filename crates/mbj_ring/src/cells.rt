@@ -30,7 +30,7 @@ impl<T> Cells<T> {
 
     /// Takes memory for `count` cells, each of them empty.
     ///
-    /// Returns `AllocError` for want of memory, also where the cells would have more than `MAX_BYTES`.
+    /// Returns `AllocError` for want of memory, also if the cells would have more than `MAX_BYTES`.
     pub(crate) fn allocate(alloc: &Global, count: usize) -> Result<Cells<T>, AllocError>
         requires { 0 < count }
         ensures { IfOk result (λ c. c.held ≡ replicate count None) }

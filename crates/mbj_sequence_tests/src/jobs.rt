@@ -75,7 +75,7 @@ fn draw_len(draws: &mut Draws, packet: u16, off: u16) -> u16 {
     behind.saturating_sub(draws.up_to(behind) / 4)
 }
 
-/// One job in sixteen has a length or a place that its cipher or its authentication doesn't take, where it has one.
+/// One job in sixteen has a length or a place that its cipher or its authentication doesn't take, if it has one.
 fn draw_fault(draws: &mut Draws, shape: &mut Shape) {
     if draws.below(16) != 0 {
         return;
@@ -128,7 +128,7 @@ fn front(alloc: Global, states: [u8; MAX_BLOCK_BYTES], len: usize) -> Result<Byt
     Bytes::from_slice(alloc, &states[..len])
 }
 
-/// The states of a key, where the authentication takes these, or else the key itself.
+/// The states of a key, if the authentication takes these, or else the key itself.
 fn auth_key(alloc: Global, auth: Auth, key: Vec<u8>) -> Result<Bytes, AllocError> {
     match auth {
         Auth::HmacSha1States => front(alloc, states(Auth::HmacSha1, &key), 40),

@@ -11,7 +11,7 @@ first_of Upper = 8
 abbrev pub IsIn : Half → ℕ → Type 0
 IsIn half i = (first_of half ≤ i) × (i < first_of half + 8)
 
--- a lane is in the half, where one is named
+-- a lane is in the half, if one is named
 abbrev pub IsWithin : Option Half → ℕ → Type 0
 IsWithin None i = Unit {0}
 IsWithin (Some half) i = IsIn half i

@@ -71,7 +71,7 @@ gcm_cipher cipher.Ctr h = absurd (cc)
 gcm_cipher cipher.Gcm h = refl
 gcm_cipher cipher.Ccm h = absurd (cc)
 
--- where the cipher is GCM, so is the authentication
+-- if the cipher is GCM, so is the authentication
 pub gcm_both : (c : Cipher) (a : AuthClass) → goes_with c a ≡ true → c ≡ cipher.Gcm → a ≡ class.Gcm
 gcm_both cipher.Null a h e = absurd (cc)
 gcm_both cipher.Cbc a h e = absurd (cc)

@@ -198,7 +198,7 @@ led_to-finished : (reason : Option Reason) (j : Job) (tag : List ℕ) (left : Li
     → record { status = status_of reason; packet = j.packet; tag = tag } ≡ led_to reason left j tag
 led_to-finished reason j tag left h = ap (λ (steps : List Step). led_to reason steps j tag) (sym (finished-left j left h))
 
--- where no step is left, what is owed is there
+-- if no step is left, what is owed is there
 pub owed-finished : (c : CourseState) → stage_of c ≡ stage.Finished
     → record { status = status_of c.reason; packet = c.job.packet; tag = c.tag } ≡ owed c
 unfolding owed

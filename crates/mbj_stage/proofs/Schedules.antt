@@ -37,7 +37,7 @@ keyed-begun None j left None steps wanted is some needs = let bad : false ≡ tr
 keyed-begun None j left (Some schedule) steps wanted is some needs = is
 keyed-begun (Some reason) j left schedule steps wanted is some needs = absurd (some steps)
 
--- where a step is next, one is left
+-- if a step is next, one is left
 pub next-some : (s : Step) (left : List Step) → IsNextStep s left → left ≢ []
 next-some s [] next none = next
 next-some s (t ∷ left) next none = cc

@@ -24,7 +24,7 @@ use Rattle.mbj_stage.specs.declared.stage.Stage.TheVariants as stage
 use Rattle.mbj_stage.specs.CourseState.{lengths_of, sized}
 use Rattle.mbj_stage.proofs.StagesOf.{stage-packet, stage-texts}
 
--- the one step of a list is a job's where it is so
+-- the one step of a list is a job's if it is so
 own_one : (j : Job) (s : Step) → IsStepOf j s → All (IsStepOf j) (s ∷ [])
 own_one j s h = All-cons (IsStepOf j) s [] h (All-nil (IsStepOf j))
 
@@ -106,7 +106,7 @@ sound_begun (Some r) j left e steps = record {
   lengths = λ _ _. refl;
 }
 
--- with any job, where no step is left
+-- with any job, if no step is left
 pub sound_finished : (j : Job) (left : List Step) (out : Option ℕ) (n : Lengths) → left ≡ [] → IsSound j left out n
 sound_finished j left out n none = record {
   accepted = λ some. absurd (some none);

@@ -84,7 +84,7 @@ auth-left (class.Plain hash) e = cc
 auth-left class.Gmac e = cc
 auth-left (class.States hash) e = cc
 
--- where the stage is finished no step is left
+-- if the stage is finished no step is left
 pub finished-left : (j : Job) (left : List Step) → stage_at j left ≡ stage.Finished → left ≡ []
 finished-left j [] h = refl
 finished-left j (step.Cipher ∷ left) h = absurd (cipher-left j.cipher j.dir (length j.key) h)
@@ -150,7 +150,7 @@ auth-step (class.Plain hash) k h = let e : hash_kind hash ≡ k = cc in hash-ste
 auth-step class.Gmac k h = absurd (cc)
 auth-step (class.States hash) k h = let e : hash_kind hash ≡ k = cc in hash-step hash ∙ ap step_of e
 
--- where a stage in a kind's lanes is next, its step is the first
+-- if a stage in a kind's lanes is next, its step is the first
 pub first-step : (j : Job) (left : List Step) (k : Kind) → stage_at j left ≡ stage.Lane k → IsNextStep (step_of k) left
 first-step j [] k h = absurd (cc)
 first-step j (step.Cipher ∷ left) k h = sym (cbc-step (length j.key)) ∙ ap step_of (cipher-lane j.cipher j.dir (length j.key) k h).kind
@@ -160,7 +160,7 @@ first-step j (step.CcmMac ∷ left) k h = let e : ccm_kind (length j.key) ≡ k 
 first-step j (step.CcmText ∷ left) k h = absurd (cc)
 first-step j (step.Gmac ∷ left) k h = absurd (cc)
 
--- where the first step is the authentication, its stage is next
+-- if the first step is the authentication, its stage is next
 pub auth-first : (j : Job) (left : List Step) → IsNextStep step.Auth left → stage_at j left ≡ auth_stage_by (class_of j.auth)
 auth-first j [] h = absurd h
 auth-first j (step.Cipher ∷ left) h = absurd (cc)

@@ -22,13 +22,13 @@ use Rattle.mbj_stage.specs.Steps.{steps_by, stage_at}
 pub record CourseState : Type 0 where
   -- the job with its packet as it now is
   pub job : Job
-  -- the tag where it is made, else no bytes; between the two steps of CCM what the first of them made
+  -- the tag if it is made, else no bytes; between the two steps of CCM what the first of them made
   pub tag : List ℕ
   -- why the job is refused
   pub reason : Option Reason
   -- the steps that are left
   pub left : List Step
-  -- the length of the packet where it is out of the course, in a lane
+  -- the length of the packet if it is out of the course, in a lane
   pub out : Option ℕ
   -- how long the job's IV and data are, also while they are out
   pub lengths : Lengths
@@ -70,7 +70,7 @@ abbrev pub ccm_mac_over : Job → List ℕ → List ℕ
 ccm_mac_over j p = ccm_mac (aes j.key) j.iv j.aad (cipher_range j p) j.tag_len
 
 -- CCM's tag is the MAC xored with the mask, and cut. What is made first of the two stands in the tag's place until the other one
--- comes: the MAC where the text is sealed, the mask where it is opened
+-- comes: the MAC if the text is sealed, the mask if it is opened
 abbrev pub with_mac : ℕ → List ℕ → Dir → List ℕ → List ℕ
 with_mac tag_len mac Enc tag = mac
 with_mac tag_len mac Dec mask = take tag_len (xor_lists mac mask)

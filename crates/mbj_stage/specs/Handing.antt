@@ -72,7 +72,7 @@ pub record IsNext (k : Kind) (c : CourseState) : Type 0 where
   pub stage : stage_of c ≡ stage.Lane k
   pub here : c.out ≡ None
 
--- an entry that does this step brings a nonce and data of these lengths back, where it has them
+-- an entry that does this step brings a nonce and data of these lengths back, if it has them
 abbrev pub BringsData : Step → Lengths → End → Type 0
 BringsData step.CcmMac n e = (length e.iv ≡ n.iv) × (length e.aad ≡ n.aad)
 BringsData s n e = Unit {0}

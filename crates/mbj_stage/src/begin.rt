@@ -23,8 +23,8 @@ impl Course {
         Course::begin_with(job, None)
     }
 
-    /// The course of a job, with nothing done. Where the job is accepted and needs the schedule of its key, the schedule is that of the
-    /// entry of the job's session, where the notes know it and its key is the job's; else the key is expanded.
+    /// The course of a job, with nothing done. If the job is accepted and needs the schedule of its key, the schedule is that of the
+    /// entry of the job's session, if the notes know it and its key is the job's; else the key is expanded.
     pub fn begin_in(job: Job, keys: &Keys, notes: &mut Notes) -> Course
         requires { AreOf keys.now notes.old }
         ensures same { notes.new ≡ notes.old }
@@ -35,8 +35,8 @@ impl Course {
         Course::begin_with(job, found)
     }
 
-    /// The course of a job, with nothing done. Where the job is accepted and needs the schedule of its key, the schedule is the one that
-    /// was found; where none was, the key is expanded.
+    /// The course of a job, with nothing done. If the job is accepted and needs the schedule of its key, the schedule is the one that
+    /// was found; if none was, the key is expanded.
     pub fn begin_with(job: Job, found: Option<&Schedule>) -> Course
         requires { IfSome found (λ s. IsScheduleOf job.key s.now) }
         ensures begun { result ≡ begun job }
@@ -60,8 +60,8 @@ impl Course {
         Course::start(job, reason, Some(schedule))
     }
 
-    /// Begins the course of its own job, whatever was done of it. Where the job is accepted and needs the schedule of its key, the schedule
-    /// is the one that was found; where none was, the key is expanded.
+    /// Begins the course of its own job, whatever was done of it. If the job is accepted and needs the schedule of its key, the schedule
+    /// is the one that was found; if none was, the key is expanded.
     pub fn begin_in_place(&mut self, found: Option<&Schedule>)
         requires { IfSome found (λ s. IsScheduleOf self.old.job.key s.now) }
         ensures begun { self.new ≡ begun self.old.job }

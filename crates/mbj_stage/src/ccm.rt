@@ -25,7 +25,7 @@ fn joined(block: &[u8; 16], other: &[u8], tag_len: u8) -> Tag
     cut(&whole[..both], tag_len)
 }
 
-/// What stands in the tag's place once the MAC is made: the MAC where the text is sealed, and where it is opened the tag, since the
+/// What stands in the tag's place once the MAC is made: the MAC if the text is sealed, and if it is opened the tag, since the
 /// mask stood there.
 pub(crate) fn with_mac(job: &Job, mac: &[u8; 16], tag: &Tag) -> Tag
     ensures { result ≡ with_mac job.now.tag_len mac.now job.now.dir tag.now }
@@ -36,7 +36,7 @@ pub(crate) fn with_mac(job: &Job, mac: &[u8; 16], tag: &Tag) -> Tag
     }
 }
 
-/// What stands there once the mask is made: the tag where the text is sealed, since the MAC stood there, and where it is opened
+/// What stands there once the mask is made: the tag if the text is sealed, since the MAC stood there, and if it is opened
 /// the mask.
 fn with_mask(job: &Job, mask: &[u8; 16], tag: &Tag) -> Tag
     ensures { result ≡ with_mask job.now.tag_len mask.now job.now.dir tag.now }

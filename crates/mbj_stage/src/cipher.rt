@@ -47,7 +47,7 @@ fn ctr(job: &Job, key: &Schedule, text: &mut [u8])
     mbj_ctr::apply(key, job.iv.as_slice(), text);
 }
 
-/// Does the cipher of an accepted job on its packet, where it is done at once: the cipher range changes, and nothing else.
+/// Does the cipher of an accepted job on its packet, if it is done at once: the cipher range changes, and nothing else.
 pub(crate) fn run(job: &Job, key: &Schedule, packet: &mut [u8])
     requires key { IsScheduleOf job.now.key key.now }
     requires step { cipher_steps job.now.cipher ≡ step.Cipher ∷ [] }

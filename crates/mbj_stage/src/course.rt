@@ -59,7 +59,7 @@ pub struct Course {
     // The length of the packet while it is out.
     out: Option<usize>,
     lengths: Lengths,
-    // Of the cipher's key, where the job is accepted and has a cipher, but for CBC encryption.
+    // Of the cipher's key, if the job is accepted and has a cipher, but for CBC encryption.
     schedule: Option<Schedule>,
 }
 
@@ -127,7 +127,7 @@ fn status(reason: Option<Reason>) -> Status
     }
 }
 
-/// Keeps the schedule of a job's key, where the job needs one: the one that was found, or the expanded key where none was.
+/// Keeps the schedule of a job's key, if the job needs one: the one that was found, or the expanded key if none was.
 fn keep_schedule(
     kept: &mut Option<Schedule>,
     job: &Job,
@@ -149,7 +149,7 @@ fn keep_schedule(
     });
 }
 
-/// Keeps no schedule. Nothing is written where there is none.
+/// Keeps no schedule. Nothing is written if there is none.
 fn forget(kept: &mut Option<Schedule>)
     ensures { kept.new ≡ None }
 {
@@ -179,7 +179,7 @@ impl Course {
         }
     }
 
-    /// The course of a job, with nothing done, which is refused for this reason or for none. The schedule of its key is there where the job
+    /// The course of a job, with nothing done, which is refused for this reason or for none. The schedule of its key is there if the job
     /// needs one.
     pub(crate) fn start(job: Job, reason: Option<Reason>, schedule: Option<Schedule>) -> Course
         requires reason { reason ≡ verdict job }
@@ -200,8 +200,8 @@ impl Course {
         }
     }
 
-    /// The course of its own job, with nothing done, where the job is refused for this reason or for none. The schedule of the cipher's
-    /// key, where the job needs one, is the one that was found; where none was, the key is expanded.
+    /// The course of its own job, with nothing done, if the job is refused for this reason or for none. The schedule of the cipher's
+    /// key, if the job needs one, is the one that was found; if none was, the key is expanded.
     pub(crate) fn restart(&mut self, reason: Option<Reason>, found: Option<&Schedule>)
         requires reason { reason ≡ verdict self.old.job }
         requires found { IfSome found (λ s. IsScheduleOf self.old.job.key s.now) }

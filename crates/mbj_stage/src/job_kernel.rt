@@ -50,7 +50,7 @@ pub trait JobKernel: SlotKernel {
         requires done { Self.rest_of entry ≡ 0 }
         ensures { course.new ≡ taken_back (brings entry) course.old };
 
-    /// Hands the packet of a course out into an idle slot, where the next stage is in these lanes.
+    /// Hands the packet of a course out into an idle slot, if the next stage is in these lanes.
     #[inline(always)]
     fn hand_into(course: &mut Course, slots: &mut Self::Slots, i: usize)
         requires fits { fits }

@@ -11,7 +11,7 @@ ghost use Rattle.mbj_stage.specs.Inside.Kept.{HasSchedule};
 use mbj_aes::Schedule;
 use mbj_types::{Cipher, Dir, Job, Reason};
 
-/// Whether the key is used, where the job is refused for this reason or for none.
+/// Whether the key is used, if the job is refused for this reason or for none.
 pub(crate) fn uses_key(reason: Option<Reason>, job: &Job) -> bool
     ensures { result ≡ uses_key reason job.now.cipher }
 {
@@ -31,7 +31,7 @@ fn needs_schedule(job: &Job) -> bool
     }
 }
 
-/// Whether the job needs the schedule, where it is refused for this reason or for none.
+/// Whether the job needs the schedule, if it is refused for this reason or for none.
 pub(crate) fn keeps_schedule(reason: Option<Reason>, job: &Job) -> bool
     requires { reason ≡ verdict job.now }
     ensures wants { result ≡ keeps_schedule reason job.now.cipher job.now.dir }

@@ -7,7 +7,7 @@ use std::io::{self, Print};
 /// No part of a job may be as long as this.
 const END: usize = 66_000;
 
-/// The lengths from `first` to `last`, behind a comma where others stand before them.
+/// The lengths from `first` to `last`, behind a comma if others stand before them.
 fn print_run(rt: &impl Print, is_first: bool, first: usize, last: usize) -> io::Result<()> {
     if !is_first {
         print!(rt; ",")?;

@@ -50,7 +50,7 @@ module _ {V : Type 0} (Good : V → Type 0) (Bad : ℕ → ℕ → Type 0) (Over
 
   -- ---- exactly one holds
 
-  -- where one of them holds, the other two don't
+  -- if one of them holds, the other two don't
   one_only : Fate Good Bad Over → ExactlyOne ((v : V) × Good v) ((line : ℕ) × (field : ℕ) × Bad line field) ((line : ℕ) × Over line)
   one_only (inl g) = inl (g, λ b. good_not_bad g.0 b.0 b.1 g.1 b.2, λ o. good_not_over g.0 o.0 g.1 o.1)
   one_only (inr (inl b)) = inr (inl (λ g. good_not_bad g.0 b.0 b.1 g.1 b.2, b, λ o. bad_not_over b.0 b.1 o.0 b.2 o.1))
@@ -79,14 +79,14 @@ module _ {A : Type 0} (Good : A → Type 0) (Bad : ℕ → ℕ → Type 0) (Over
 -- ---- each relation has its answer, where a value is seen as what it stands for
 
 module _ {A V : Type 0} (view : A → V) (Good : V → Type 0) (Bad : ℕ → ℕ → Type 0) (Over : ℕ → Type 0) (outcome : Result V TextFault) (tells : Tells Good Bad Over outcome) where
-  -- the answer where it is good
+  -- the answer if it is good
   pub good_only : (r : Result A TextFault) → Answers (λ x. Good (view x)) Bad Over r → (v : V) → Good v → IsOkOnly r (λ x. view x ≡ v)
   good_only (Ok x) a v s = good_once Good Bad Over outcome tells (view x) v a s
   good_only (Err (text_fault.Line line field)) a v s = absurd (good_not_bad Good Bad Over outcome tells v line field s a)
   good_only (Err (text_fault.Limit line)) a v s = absurd (good_not_over Good Bad Over outcome tells v line s a)
   good_only (Err text_fault.Memory) a v s = refl
 
-  -- the answer where it is bad
+  -- the answer if it is bad
   pub bad_only : (r : Result A TextFault) → Answers (λ x. Good (view x)) Bad Over r → (line field : ℕ) → Bad line field → IsErrOnly r (text_fault.Line line field)
   bad_only (Ok x) a line field b = absurd (good_not_bad Good Bad Over outcome tells (view x) line field a b)
   bad_only (Err (text_fault.Line line' field')) a line field b =
@@ -94,7 +94,7 @@ module _ {A V : Type 0} (view : A → V) (Good : V → Type 0) (Bad : ℕ → �
   bad_only (Err (text_fault.Limit line')) a line field b = absurd (bad_not_over Good Bad Over outcome tells line field line' b a)
   bad_only (Err text_fault.Memory) a line field b = inr refl
 
-  -- the answer where it is too long
+  -- the answer if it is too long
   pub over_only : (r : Result A TextFault) → Answers (λ x. Good (view x)) Bad Over r → (line : ℕ) → Over line → IsErrOnly r (text_fault.Limit line)
   over_only (Ok x) a line o = absurd (good_not_over Good Bad Over outcome tells (view x) line a o)
   over_only (Err (text_fault.Line line' field')) a line o = absurd (bad_not_over Good Bad Over outcome tells line' field' line a o)

@@ -100,7 +100,7 @@ module _ {X : Type 0} (read : List X → List ℕ → Read X) where
     unfolding outcome
     good_give lines values good = ap (outcome []) (sym (append-nil lines)) ∙ good_front [] lines values [] good
 
-    -- where reading stops, the fault of the line there is that of the lines
+    -- if reading stops, the fault of the line there is that of the lines
     pub stop_gives : (Why : List X → List ℕ → Type 0) (lines : List Numbered) (line : ℕ) (s : StopsAt Spells Why lines line) (fault : LineFault)
         → read s.values s.text ≡ Err fault → outcome [] lines ≡ Err (fault_at line fault)
     unfolding outcome

@@ -40,7 +40,7 @@ not_begins line other = go (begins_session (fields_of line)) refl
     go true e = absurd (other (begins_read line e))
     go false e = e
 
--- what a line with these fields is read as, where the first is the word
+-- what a line with these fields is read as, if the first is the word
 abbrev read_behind : List (List ℕ) → Read (List ℕ)
 read_behind texts = all_from session_forms (record { taken = 1; left = drop 1 texts }) (λ vs. vs.0)
 

@@ -1,4 +1,4 @@
--- A field is read exactly where it has its form, and a line where each of its fields has.
+-- A field is read exactly where it has its form, and a line if each of its fields has.
 use Rattle.std.proofs.Common.{◌≡◌, ◌⊎◌, ◌∙◌, ◌+◌, inl, inr, ap, sym, refl, ℕ, suc, Bool, cond, List, [], ◌∷◌, Option, Some, None, Ok, length, arith, eq-eqb}
 use Rattle.std.specs.Option.{option_map_or}
 use Rattle.std.proofs.lemmas.Bool.{ne_eqb}

@@ -27,7 +27,7 @@ is_skipped (first ∷ rest) = first == number_sign
 abbrev pub Numbered : Type 0
 Numbered = ℕ × List ℕ
 
--- the lines that aren't skipped, where lines are numbered from n on; one CR at a line's end is dropped first
+-- the lines that aren't skipped, if lines are numbered from n on; one CR at a line's end is dropped first
 unfoldable pub kept_lines_from : ℕ → List (List ℕ) → List Numbered
 kept_lines_from n [] = []
 kept_lines_from n (line ∷ lines) =
@@ -35,7 +35,7 @@ kept_lines_from n (line ∷ lines) =
     if is_skipped text then kept_lines_from (n + 1) lines else (n, text) ∷ kept_lines_from (n + 1) lines
 
 -- the lines of a file that aren't skipped: it is cut at each LF, and lines are counted from 1;
--- what is behind the last LF is a line too, which is skipped where it is empty
+-- what is behind the last LF is a line too, which is skipped if it is empty
 abbrev pub kept_lines : List ℕ → List Numbered
 kept_lines bytes = kept_lines_from 1 (cut line_feed bytes)
 
@@ -43,10 +43,10 @@ kept_lines bytes = kept_lines_from 1 (cut line_feed bytes)
 abbrev pub is_mark : List ℕ → Bool
 is_mark line = bytes_eq line (codes "%")
 
--- the session lines and job lines of a replay: those before the first such line, or all where there is none
+-- the session lines and job lines of a replay: those before the first such line, or all if there is none
 abbrev pub job_part : List Numbered → List Numbered
 job_part lines = before_first (λ line. is_mark line.1) lines
 
--- its script lines: those behind the first such line, or none where there is none
+-- its script lines: those behind the first such line, or none if there is none
 abbrev pub script_part : List Numbered → List Numbered
 script_part lines = after_first (λ line. is_mark line.1) lines

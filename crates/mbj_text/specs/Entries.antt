@@ -50,7 +50,7 @@ SpellsEntry before line (SessionEntry key) = (length (keys_in before) < MAX_SESS
 SpellsEntry before line (JobEntry job) =
     ¬ (IsSessionLine line) × (length (jobs_in before) < JOB_LIMIT) × Spells (keys_in before) line job
 
--- the line is a session line, and its fault is field f: 1 where there are MAX_SESSIONS before it, else 0 where it hasn't
+-- the line is a session line, and its fault is field f: 1 if there are MAX_SESSIONS before it, else 0 if it hasn't
 -- two fields, else 2
 abbrev pub IsBadSession : List Entry → List ℕ → ℕ → Type 0
 IsBadSession before line f = (session : IsSessionLine line)

@@ -22,6 +22,6 @@ pub record WritesFront (s : Stream) (text : List ℕ) : Type 0 where
   pub failed : Fails s
   pub never_falls : s.faults_before ≤ s.faults_after
 
--- what a call answers that writes a text: Ok where the whole text was written, and Failed where it broke off
+-- what a call answers that writes a text: Ok if the whole text was written, and Failed if it broke off
 abbrev pub Writes : Result (Unit {0}) Failed → Stream → List ℕ → Type 0
 Writes answer s text = MatchResult answer (λ _. WritesAll s text) (λ _. WritesFront s text)

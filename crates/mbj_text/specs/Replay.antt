@@ -15,7 +15,7 @@ pub record ReadsReplay (submitters workers : ℕ) (bytes : List ℕ) (keys : Lis
   pub jobs_are : ReadsLines (job_part (kept_lines bytes)) keys jobs
   pub commands_are : SpellScript submitters workers (script_part (kept_lines bytes)) commands
 
--- the line with this number is the first bad one: a line before the script, or else, where these spell sessions and jobs,
+-- the line with this number is the first bad one: a line before the script, or else, if these spell sessions and jobs,
 -- a script line; the field is its fault
 abbrev pub BadReplay : ℕ → ℕ → List ℕ → ℕ → ℕ → Type 0
 BadReplay submitters workers bytes line field =

@@ -44,7 +44,7 @@ pub record HasVerb (line : List ℕ) : Type 0 where
   pub texts : List (List ℕ)
   pub fields : fields_of line ≡ verb_word word ∷ texts
 
--- the line spells no command, and its fault is field f: 1 where its first field is no verb's word, else 0 where it hasn't
+-- the line spells no command, and its fault is field f: 1 if its first field is no verb's word, else 0 if it hasn't
 -- as many fields as the verb asks, else the number of the first one that isn't a number below its limit
 abbrev pub IsBadCommand : ℕ → ℕ → List ℕ → ℕ → Type 0
 IsBadCommand submitters workers line f =

@@ -101,18 +101,18 @@ SpellsFields (form ∷ rest) (text ∷ texts) vs = Spelled form text vs.0 × Spe
 abbrev pub fields_of : List ℕ → List (List ℕ)
 fields_of line = cut space line
 
--- the line spells the job, where sessions with these keys are before it
+-- the line spells the job, if sessions with these keys are before it
 abbrev pub Spells : List (List ℕ) → List ℕ → Job → Type 0
 Spells keys line j = SpellsFields (forms keys) (fields_of line) (values keys j)
 
--- the first of the texts that isn't of its form has number f, where they are numbered from n on
+-- the first of the texts that isn't of its form has number f, if they are numbered from n on
 abbrev pub IsFirstBad : ℕ → List Form → List (List ℕ) → ℕ → Type 0
 IsFirstBad n [] texts f = ⊥
 IsFirstBad n (form ∷ rest) [] f = ⊥
 IsFirstBad n (form ∷ rest) (text ∷ texts) f =
     ((f ≡ n) × ¬ (HasForm form text)) ⊎ (HasForm form text × IsFirstBad (n + 1) rest texts f)
 
--- the texts don't spell the forms, and the fault is field f: 0 where there aren't as many texts as forms,
+-- the texts don't spell the forms, and the fault is field f: 0 if there aren't as many texts as forms,
 -- else the number of the first one that isn't of its form
 abbrev pub HasFault : ℕ → List Form → List (List ℕ) → ℕ → Type 0
 HasFault n fs texts f =

@@ -11,7 +11,7 @@ use std::fmt;
 #[derive(Clone, Copy, Debug, PartialEq, Eq)]
 pub enum TextFault {
     /// The line is the first that is neither a session nor a job, or, behind these lines, no command. The
-    /// field is 0 where the line hasn't as many fields as it should, else the number, from 1 on, of the
+    /// field is 0 if the line hasn't as many fields as it should, else the number, from 1 on, of the
     /// first field that isn't of its form. It is 1 for a session line that is one more than a file may have.
     Line { line: u32, field: u32 },
     /// The line is one job line more than a file may have.

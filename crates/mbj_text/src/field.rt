@@ -12,7 +12,7 @@ const MAX_DIGITS: usize = 5;
 pub(crate) trait Field: Sized {
     ghost value_of: { List ℕ → Option Self };
 
-    /// What the text spells, or none where it isn't of the form.
+    /// What the text spells, or none if it isn't of the form.
     fn read(alloc: Global, text: &[u8]) -> Result<Option<Self>, AllocError>
         ensures { IfOk result (λ value. value ≡ value_of text.now) };
 }

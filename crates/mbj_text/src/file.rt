@@ -43,7 +43,7 @@ use std::alloc::Global;
 /// digits, the first of them not `0` unless it is the only one. `specs/Words.antt` has all words.
 ///
 /// It returns `Line` at the first line that isn't so, or is a session line behind `MAX_SESSIONS` others
-/// (field 1); `Limit` at the job line behind `JOB_LIMIT` good ones, whatever it says; and `Memory` where
+/// (field 1); `Limit` at the job line behind `JOB_LIMIT` good ones, whatever it says; and `Memory` if
 /// there isn't memory enough.
 ///
 /// ```

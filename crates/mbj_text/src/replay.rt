@@ -35,9 +35,9 @@ use std::alloc::Global;
 ///
 /// S is below `submitters`, and W is below `workers`.
 ///
-/// It returns `Line` at the first bad line, `Limit` at the job line behind `JOB_LIMIT` good ones, whatever it says, and `Memory` where
-/// there isn't memory enough. Of a bad session or job line the field is that of `read_file`. Of a bad script line it is 1 where the first
-/// field is no such word, else 0 where the number of fields isn't that of the command, else the number of the first field that is no number
+/// It returns `Line` at the first bad line, `Limit` at the job line behind `JOB_LIMIT` good ones, whatever it says, and `Memory` if
+/// there isn't memory enough. Of a bad session or job line the field is that of `read_file`. Of a bad script line it is 1 if the first
+/// field is no such word, else 0 if the number of fields isn't that of the command, else the number of the first field that is no number
 /// below its limit. A job line that is bad or one too many, or a bad session line, is reported before any bad script line.
 pub fn read_replay(
     alloc: Global,

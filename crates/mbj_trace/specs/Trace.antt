@@ -25,7 +25,7 @@ new_tracing = record { manager = new_manager; given = 0 }
 abbrev pub Traced : Type 0
 Traced = Told TraceLine Tracing
 
--- a call of the manager is told in one line; the job that it gives back, where it gives one, is told by its number
+-- a call of the manager is told in one line; the job that it gives back, if it gives one, is told by its number
 abbrev pub call_told : (Option ℕ → TraceLine) → (ManagerState → Option Done × ManagerState) → Tracing → Traced
 call_told line call t =
     let a = call t.manager in
@@ -33,7 +33,7 @@ call_told line call t =
 
 -- ---- submitting
 
--- where no cell is left, that is told, and the earliest job is flushed
+-- if no cell is left, that is told, and the earliest job is flushed
 abbrev pub room_told : Tracing → Traced
 room_told t =
     if length t.manager.owed == CELLS then then_told (line.Full ∷ [], t) (call_told line.Flush after_flush) else ([], t)

@@ -55,7 +55,7 @@ impl Tracer {
         Some(number)
     }
 
-    /// Where no cell is left, tells that and flushes the earliest job.
+    /// If no cell is left, tells that and flushes the earliest job.
     fn make_room(&mut self) -> Result<(), AllocError>
         requires { jobs_in (state_of self.old) ≤ JOB_LIMIT }
         ensures lines { OnOk result (self.new.lines.items ≡ self.old.lines.items ++ (room_told (state_of self.old)).0) }
@@ -137,7 +137,7 @@ impl Tracer {
         Ok(())
     }
 
-    /// Tells how many rounds and blocks the full runs of a kind took, where there were any.
+    /// Tells how many rounds and blocks the full runs of a kind took, if there were any.
     fn count_kind(&mut self, kind: Kind) -> Result<(), AllocError>
         ensures lines { OnOk result (self.new.lines.items
             ≡ self.old.lines.items ++ count_lines self.old.manager.machine kind) }

@@ -22,7 +22,7 @@ xor_lists-next xs ys zs i h k e =
     let next : i + 1 ≡ suc i = omega arith in
     rw (next, e) (next_xored xs ys i h k)
 
--- a list zs whose first i bytes are xored, where that is all of them
+-- a list zs whose first i bytes are xored, if that is all of them
 pub xor_lists-whole : (xs ys zs : List ℕ) (i : ℕ) → length xs ≤ i → zs ≡ xor_lists (take i xs) ys ++ drop i xs
     → zs ≡ xor_lists xs ys
 xor_lists-whole xs ys zs i h e =

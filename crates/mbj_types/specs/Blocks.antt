@@ -27,7 +27,7 @@ filled_block p = p ++ replicate (16 - length p) 0
 abbrev pub filled_blocks : List ℕ → List (List ℕ)
 filled_blocks part = map filled_block (blocks part)
 
--- the last block, or c where there is none
+-- the last block, or c if there is none
 abbrev pub last_or : List ℕ → List (List ℕ) → List ℕ
 last_or c [] = c
 last_or c (x ∷ xs) = last_or x xs

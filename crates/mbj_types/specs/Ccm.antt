@@ -57,7 +57,7 @@ abbrev pub ccm_mask : (List ℕ → List ℕ) → List ℕ → List ℕ
 ccm_mask e nonce = e (counter_block nonce 0)
 
 -- 6.1 and 6.2: the other text, and the whole tag, of which the tag is the leftmost bytes. The tag is over the plaintext, which is
--- the given text where it is sealed, else what that is deciphered to
+-- the given text if it is sealed, else what that is deciphered to
 abbrev pub ccm : (List ℕ → List ℕ) → List ℕ → List ℕ → List ℕ → ℕ → Bool → List ℕ × List ℕ
 ccm e nonce aad text tag_len sealing =
     let plaintext = if sealing then text else ccm_text e nonce text in

@@ -4,7 +4,7 @@ use Rattle.std.specs.Int.{w128, to_be_bytes, from_be_bytes}
 use Rattle.mbj_types.specs.Blocks.{xor_lists, blocks, zero_block, last_or}
 use Rattle.mbj_types.specs.Modes.{cbc}
 
--- 6.1: a block as a string of 128 bits shifted left by one, and 87 xored into it where the bit shifted out was 1
+-- 6.1: a block as a string of 128 bits shifted left by one, and 87 xored into it if the bit shifted out was 1
 abbrev pub doubled_number : ℕ → ℕ
 doubled_number v = if nat_eq (v / 2 ^ 127) 1 then bit_xor (v * 2 % 2 ^ 128) 0x87 else v * 2 % 2 ^ 128
 
@@ -23,7 +23,7 @@ abbrev pub message_blocks : List ℕ → List (List ℕ)
 message_blocks [] = [] ∷ []
 message_blocks (x ∷ m) = blocks (x ∷ m)
 
--- 6.2, step 4: the last block is xored with K1 where it is whole, else filled by a bit 1 and zeros and xored with K2
+-- 6.2, step 4: the last block is xored with K1 if it is whole, else filled by a bit 1 and zeros and xored with K2
 abbrev pub closed_block : (List ℕ → List ℕ) → List ℕ → List ℕ
 closed_block e p =
     if nat_eq (length p) 16 then xor_lists p (first_subkey e)

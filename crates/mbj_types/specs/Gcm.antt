@@ -37,7 +37,7 @@ gcm_tag e iv aad ciphertext =
     let lengths = bit_length (length aad) ++ bit_length (length ciphertext) in
     xor_lists (e (pre_counter_block (e zero_block) iv)) (ghash (e zero_block) (filled_blocks aad ++ filled_blocks ciphertext ++ lengths ∷ []))
 
--- 7.1 and 7.2: the other text, and the tag over the ciphertext, which is that text where the text is sealed, else the given one
+-- 7.1 and 7.2: the other text, and the tag over the ciphertext, which is that text if the text is sealed, else the given one
 abbrev pub gcm : (List ℕ → List ℕ) → List ℕ → List ℕ → List ℕ → Bool → List ℕ × List ℕ
 gcm e iv aad text sealing = (gcm_text e iv text, gcm_tag e iv aad (if sealing then gcm_text e iv text else text))
 

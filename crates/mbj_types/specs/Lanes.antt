@@ -19,7 +19,7 @@ lane_of lane vs i = map (λ v. lane v i) vs
 abbrev pub IsTableIndex : ℕ → Type 0
 IsTableIndex i = (i < 16) ⊎ (128 ≤ i)
 
--- the byte there, and 0 where there is none
+-- the byte there, and 0 if there is none
 abbrev pub table_byte : List ℕ → ℕ → ℕ
 table_byte table i = if nat_lt i 128 then slice_index table i % 2 ^ 8 else 0
 

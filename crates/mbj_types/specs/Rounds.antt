@@ -34,7 +34,7 @@ auth_rounds c b n =
     else if is_from_states c then states_rounds b n
     else hmac_rounds b n
 
--- CCM's additional data of a bytes: one for each block of it and the 2 bytes of its length, and none where there is no data
+-- CCM's additional data of a bytes: one for each block of it and the 2 bytes of its length, and none if there is no data
 abbrev pub data_rounds : ℕ → ℕ
 data_rounds a = if nat_eq a 0 then 0 else (a + 2 + 15) / 16
 

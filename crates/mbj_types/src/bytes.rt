@@ -68,7 +68,7 @@ impl Bytes {
         mem::replace(&mut self.bytes, Vec::new(alloc))
     }
 
-    /// These bytes, in place of those that it has: in the same memory where they fit, else in new memory.
+    /// These bytes, in place of those that it has: in the same memory if they fit, else in new memory.
     ///
     /// Returns `AllocError` for want of memory; the bytes are then as they were.
     #[inline(always)]

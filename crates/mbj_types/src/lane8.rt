@@ -45,7 +45,7 @@ pub trait Lane8: Copy {
         requires { by < 8 }
         ensures { (i : ℕ) → i < LANES → lane result i ≡ lane self i / 2 ^ by };
 
-    /// The byte of a table at the byte of each lane, which is below 16, and 0 where it is 128 or more. The table stands in a register: no
+    /// The byte of a table at the byte of each lane, which is below 16, and 0 if it is 128 or more. The table stands in a register: no
     /// address depends on a lane.
     fn looked_up(self, table: &[u8; 16]) -> Self
         requires { (i : ℕ) → i < LANES → IsTableIndex (lane self i) }

@@ -28,7 +28,7 @@ due_more given v w d out is count =
     ∙ ap (λ (l : List Done). given ++ l) (drop-append-le v.handed v.due (d ∷ []) (omega (arith, count)))
     ∙ sym (append_assoc given (drop v.handed v.due) (d ∷ []))
 
--- where nothing was collected, what is due stays as it is
+-- if nothing was collected, what is due stays as it is
 pub due_still : {D : Type 0} (v w : View D) → CollectsNothing v w → (w.number ≡ v.number) × (w.due ≡ v.due) × (w.handed ≡ v.handed)
 due_still v w (inl none) = (ap (λ u. u.number) none.1, ap (λ u. u.due) none.1, ap (λ u. u.handed) none.1)
 due_still v w (inr look) = (ap (λ u. u.number) look.1.2, ap (λ u. u.due) look.1.2, ap (λ u. u.handed) look.1.2)

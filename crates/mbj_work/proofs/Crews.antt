@@ -40,7 +40,7 @@ abbrev tail_of : {X : Type 0} → List (Option X) → List (Option X)
 tail_of [] = []
 tail_of (x ∷ xs) = xs
 
--- each submitter has the results of its list, where there was memory for all parties
+-- each submitter has the results of its list, if there was memory for all parties
 pub results_of_all : (olds news : List Submitter) (lists : List (Vec Job Global)) → map (λ s. s.jobs) olds ≡ map Some lists → AllZip HasResults olds news
     → All IsDone news → map (λ s. s.results.items) news ≡ map (λ l. map result_of l.items) lists
 results_of_all [] [] [] same each done = refl
@@ -72,7 +72,7 @@ pub seat_first : (front : SharedFront Job Done Standard) (n : ℕ) (seat : Party
     → AreSeatsFrom front n old → old ≡ seat ∷ rest → IsOf front seat × (view_of seat ≡ new_party n)
 seat_first front n seat old rest seats is = (subst (AreSeatsFrom front n) is seats).0
 
--- the seats behind the first, where one more list has its submitter
+-- the seats behind the first, if one more list has its submitter
 pub seats_behind : (front : SharedFront Job Done Standard) (lists : List (Vec Job Global)) (l : Vec Job Global) (seat : PartySeat Job Done)
     (old rest : List (PartySeat Job Done)) → AreSeatsFrom front (length lists) old → old ≡ seat ∷ rest → AreSeatsFrom front (length (lists ++ l ∷ [])) rest
 seats_behind front lists l seat old rest seats is =

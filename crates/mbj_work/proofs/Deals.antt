@@ -207,7 +207,7 @@ dealing_more {X} {items} {rest} {left} {i} {n} lists list new x some dealing fir
       by_turns = subst G written (subst F dealing.count (dealt_more dealing.dealt x n (map (λ l. l.items) lists) some dealing.by_turns));
     }
 
--- where an item is left, its number is below that of all
+-- if an item is left, its number is below that of all
 pub number_inside : {X : Type 0} {items left rest : List X} {i n : ℕ} {lists : List (List X)} {x : X}
     → IsDealing items left i n lists → left ≡ x ∷ rest → i < length items
 number_inside {X} {items} {left} {rest} {i} {n} {lists} {x} dealing first =
@@ -216,7 +216,7 @@ number_inside {X} {items} {left} {rest} {i} {n} {lists} {x} dealing first =
     let count : length dealing.dealt ≡ i = dealing.count in
     omega arith
 
--- where none is left, all are dealt
+-- if none is left, all are dealt
 pub dealing_done : {X : Type 0} {items rest : List X} {i n : ℕ} {lists : List (List X)} → length rest ≡ 0
     → IsDealing items rest i n lists → AreDealt items n lists
 dealing_done {X} {items} {rest} {i} {n} {lists} none dealing =
@@ -280,7 +280,7 @@ dealt_done {X} {Y} f xs n given done lists results dealt are =
 
 -- ---- the lists by number
 
--- where an item is dealt, there is a list
+-- if an item is dealt, there is a list
 pub some_list : {X : Type 0} (items : List X) (i : ℕ) (lists : List (Vec X Global))
     → AreDealt items (length lists) (map (λ l. l.items) lists) → i < length items → 0 < length lists
 some_list [] i lists dealt inside = absurd (let no : ⊥ = omega arith in no)

@@ -57,7 +57,7 @@ pub popped_rest : (hand more : List (ℕ × Done)) (cell : ℕ) (d : Done) (room
 popped_rest hand more cell d room cells are is =
     ap (λ (b : Buffer ℕ). buffer (drop 1 b.items) b.capacity) are ∙ ap (λ h. buffer (drop 1 (cells_in h)) room) is
 
--- a push where there is room
+-- a push if there is room
 keeps_all : (room : ℕ) (xs : List ℕ) (c : ℕ) → length xs < room → keep_last room (xs ++ c ∷ []) ≡ xs ++ c ∷ []
 keeps_all room xs c short = ap (λ (k : ℕ). drop k (xs ++ c ∷ [])) (let e : length (xs ++ c ∷ []) - room ≡ 0 = omega (arith, length-append xs (c ∷ [])) in e)
 
@@ -69,7 +69,7 @@ cells_with hand cell d room cells is short =
     ∙ ap (λ (l : List ℕ). buffer l room)
     (keeps_all room (cells_in hand) cell (let e = length-map hand (λ (x : ℕ × Done). x.0) in omega arith) ∙ sym (map-append (λ x. x.0) hand ((cell, d) ∷ [])))
 
--- where no result is given back the manager stays as it was
+-- if no result is given back the manager stays as it was
 none_at : (owed : List Done) (left : List (List Pending)) (h : ManagerState) → (given_at owed left h).0 ≡ None → (given_at owed left h).1 ≡ h
 none_at [] left h none = refl
 none_at (d ∷ owed) [] h none = refl

@@ -7,7 +7,7 @@ use Rattle.mbj_front.specs.Views.{after_claim, after_finish}
 use Rattle.mbj_work.specs.Hunts.{after_looks, looks_round, FindsNone, EndsUnfound}
 use Rattle.mbj_work.specs.Parties.{KeepsDue}
 
--- where nothing is done
+-- if nothing is done
 pub keeps_all : {D : Type 0} (v : View D) → v.phase ≡ Rest → KeepsDue v v
 keeps_all v rest = (refl, rest, refl, refl, ([], sym (append-nil v.looks)))
 
@@ -38,7 +38,7 @@ pub ends_unfound : {D : Type 0} (cells at : ℕ) (u v w : View D) → KeepsDue u
 ends_unfound cells at u v w kept none =
     (kept.4.0, at, none.0, none.1, none.2, ap (λ x. x.looks) none.3 ∙ ap (λ l. l ++ looks_round cells at none.0) kept.4.1)
 
--- and it stays the last where no look is made
+-- and it stays the last if no look is made
 pub unfound_still : {D : Type 0} (found_none : Bool) (cells : ℕ) (v w u : View D) → u.looks ≡ w.looks → OnTrue found_none (EndsUnfound cells v w)
     → OnTrue found_none (EndsUnfound cells v u)
 unfound_still true cells v w u same e = (e.0, e.1, e.2, e.3, e.4, same ∙ e.5)

@@ -8,7 +8,7 @@ use Rattle.mbj_types.specs.Result.{result_of}
 use Rattle.mbj_work.specs.declared.task.Task.{Task}
 use Rattle.std.specs.declared.alloc.AllocError.{AllocError}
 
--- where a job is left, there is room for one more result than came back and is owed
+-- if a job is left, there is room for one more result than came back and is owed
 pub room-for-one : (back owed : List Done) (left rest all : List Job) (job : Job) (room : ℕ)
     → (back ++ owed) ++ map result_of left ≡ map result_of all → left ≡ job ∷ rest → length all ≤ room → length (back ++ owed) + 1 ≤ room
 room-for-one back owed left rest all job room order is fits =
@@ -23,12 +23,12 @@ pub room-for-all : (done : List Done) (left all : List Job) (room : ℕ) → don
 room-for-all done left all room order fits =
     omega (arith, fits, sym (length-append done (map result_of left)) ∙ ap length order ∙ length-map all result_of)
 
--- all is done where nothing is left
+-- all is done if nothing is left
 pub all-done : {A C : Type 0} (f : A → C) (done all : List C) (left : List A) (count : ℕ) → done ++ map f left ≡ all → count ≡ 0 → count ≡ length left → done ≡ all
 all-done f done all [] count was none is = sym (append-nil done) ∙ was
 all-done f done all (a ∷ left) count was none is = absurd (omega (arith, none, is))
 
--- two lists are alike where f of each element of the one is g of that of the other
+-- two lists are alike if f of each element of the one is g of that of the other
 pub maps-alike : {A B C : Type 0} (f : A → C) (g : B → C) (xs : List A) (ys : List B) → length xs ≡ length ys
     → ((i : ℕ) (d : A) (e : B) → i < length ys → f (get_or xs i d) ≡ g (get_or ys i e)) → map f xs ≡ map g ys
 maps-alike f g [] [] len each = refl

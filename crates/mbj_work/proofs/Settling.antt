@@ -35,7 +35,7 @@ module _ (front : SharedFront Job Done Standard) where
       ap (λ (es : List Done). d ∷ es) (each-order ds u w f.2 ∙ ap (λ (x : View Done). results_in x.hand) f.1.part)
       ∙ sym (ap results_in f.1.first)
 
-  -- where each was flushed, these are settles
+  -- if each was flushed, these are settles
   pub each-settles : (ds : List Done) (v w : View Done) (m m' : ManagerState) → FlushesEach ds m m' → FinishesEach front ds v w
       → SettlesInTurn front (length ds) v m w m'
   each-settles [] v w m m' e f = (f, e)

@@ -14,12 +14,12 @@ use Rattle.mbj_manager.specs.State.{ManagerState, after_submit_in, with_open, af
 use Rattle.mbj_work.specs.declared.claimed.Claimed.{Claimed}
 use Rattle.mbj_work.specs.declared.claimed.Claimed.TheVariants.{Yes, Not}
 
--- P where the cell was claimed, and Q of the word where it wasn't
+-- P if the cell was claimed, and Q of the word if it wasn't
 abbrev pub MatchClaimed : Claimed → Type 0 → (ℕ → Type 0) → Type 0
 MatchClaimed Yes P Q = P
 MatchClaimed (Not word) P Q = Q word
 
--- Q of the word where the cell wasn't claimed
+-- Q of the word if the cell wasn't claimed
 abbrev pub IfNot : Claimed → (ℕ → Type 0) → Type 0
 IfNot Yes Q = Unit {0}
 IfNot (Not word) Q = Q word
@@ -41,7 +41,7 @@ module _ (front : SharedFront Job Done Standard) where
   abbrev pub FinishesGiven : Option Done → View Done → View Done → Type 0
   FinishesGiven given v w = MatchOption given (w ≡ v) (λ d. FinishesFirst d v w)
 
-  -- The job of the cell went to the end of the hand, and was submitted by what the notes know. Where that gave a result back, it
+  -- The job of the cell went to the end of the hand, and was submitted by what the notes know. If that gave a result back, it
   -- is the first pair's, which left the hand.
   pub record ClaimsJob (cell : ℕ) (notes : List Known) (v : View Done) (manager : ManagerState) (w : View Done) (manager' : ManagerState) : Type 0 where
     pub job : Job

@@ -46,8 +46,8 @@ pub(crate) fn finish_first<G: Gate>(
 }
 
 impl<'k> Party<'k> {
-    /// Claims the job of a cell, where the hand has room: the cell goes to the end of the hand, and the job is submitted to the manager,
-    /// with the entry of its session where the party has learnt the session and the entry has the job's key. A result that this gives back
+    /// Claims the job of a cell, if the hand has room: the cell goes to the end of the hand, and the job is submitted to the manager,
+    /// with the entry of its session if the party has learnt the session and the entry has the job's key. A result that this gives back
     /// is that of the first cell in the hand, which is finished with it. Returns `Not` with the cell's word exactly where that isn't
     /// `READY`; then nothing changes but that the look is recorded.
     pub fn claim(&mut self, front: &Front, cell: u32) -> Claimed
@@ -134,7 +134,7 @@ impl<'k> Party<'k> {
         true
     }
 
-    /// Finishes the first cell in the hand where its job is finished already. Returns whether it was. No lanes run for this.
+    /// Finishes the first cell in the hand if its job is finished already. Returns whether it was. No lanes run for this.
     fn give_back<G: Gate>(&mut self, front: &Front, gate: &G) -> bool
         requires { IsPartyOf front.now self.old }
         ensures front { IsPartyOf front.now self.new }

@@ -65,7 +65,7 @@ pub(crate) fn make_workers(
     Ok(workers)
 }
 
-/// Runs the last submitter in this thread, and each other in a thread of its own where one can be started. This thread
+/// Runs the last submitter in this thread, and each other in a thread of its own if one can be started. This thread
 /// starts them all: a system may leave what a thread starts on that thread's core for a while.
 #[cycle(calls)]
 fn run_each<R: Threads + Wait + Sync, G: Gate + Sync>(
@@ -101,7 +101,7 @@ fn run_each<R: Threads + Wait + Sync, G: Gate + Sync>(
 /// Runs the submitters beside the workers, and sets the workers' stop flag once all submitters are done. A worker whose
 /// thread can't be started is left out.
 ///
-/// Returns `AllocError`, once all have returned, where there was no memory for a worker's party.
+/// Returns `AllocError`, once all have returned, if there was no memory for a worker's party.
 pub(crate) fn run_beside<R: Threads + Wait + Sync, G: Gate + Sync>(
     rt: &R,
     front: &Front,

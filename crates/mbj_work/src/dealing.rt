@@ -49,7 +49,7 @@ fn deal(alloc: Global, jobs: Vec<Job>, submitters: u32) -> Result<Vec<Vec<Job>>,
 }
 
 /// Does jobs by one front, whose parties share keys: the jobs are dealt to submitters by turns, and `workers` workers serve beside
-/// those. All parties but one submitter are in threads of their own, where these can be started. Returns the results in the order of
+/// those. All parties but one submitter are in threads of their own, if these can be started. Returns the results in the order of
 /// the jobs.
 ///
 /// There are 1 to `MAX_SUBMITTERS` submitters, and at most `MAX_WORKERS` workers.

@@ -45,7 +45,7 @@ impl<'k> Party<'k> {
     }
 
     /// Collects until at most `left` jobs of this submitter are out, and appends the results, for which there is room.
-    /// While the earliest job that is out has no result it waits for others, and helps where the gate lets it.
+    /// While the earliest job that is out has no result it waits for others, and helps if the gate lets it.
     pub(crate) fn collect_down_to<R: Wait, G: Gate>(
         &mut self,
         rt: &R,
@@ -89,10 +89,10 @@ impl<'k> Party<'k> {
         }
     }
 
-    /// Claims some of its own jobs, or settles a cell in the hand where none of them is ready. Returns whether there was one.
+    /// Claims some of its own jobs, or settles a cell in the hand if none of them is ready. Returns whether there was one.
     /// All results that are finished then are handed back.
     ///
-    /// Where another party has the earliest job, that party goes on with those that come next, and this one takes the last.
+    /// If another party has the earliest job, that party goes on with those that come next, and this one takes the last.
     fn help<G: Gate>(&mut self, front: &Front, gate: &G) -> bool
         requires front { IsPartyOf front.now self.old }
         requires submitter { Submits front.now self.old }
@@ -140,7 +140,7 @@ impl<'k> Party<'k> {
         claimed > 0
     }
 
-    /// Claims a cell that is ready, where the hand has room. Returns whether it did.
+    /// Claims a cell that is ready, if the hand has room. Returns whether it did.
     pub(crate) fn claim_ready<G: Gate>(&mut self, front: &Front, cell: u32, gate: &G) -> bool
         requires front { IsPartyOf front.now self.old }
         requires cell { cell < cells_of front.now }

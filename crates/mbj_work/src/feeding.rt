@@ -8,13 +8,13 @@ use mbj_types::{Done, Job};
 /// What a manager gave back when a job was given to it.
 #[derive(Debug, Drop)]
 pub struct Submitted {
-    /// The earliest job, where no cell was left and it was flushed to make room.
+    /// The earliest job, if no cell was left and it was flushed to make room.
     pub flushed: Option<Done>,
     /// What `Manager::submit` gave back.
     pub given: Option<Done>,
 }
 
-/// Gives a job to a manager. Where its ring is full, the earliest job is flushed first.
+/// Gives a job to a manager. If its ring is full, the earliest job is flushed first.
 pub fn submit_job(manager: &mut Manager, job: Job) -> Submitted
     ensures result { result ≡ (fed job manager.old).0 }
     ensures state { manager.new ≡ (fed job manager.old).1 }

@@ -13,7 +13,7 @@ use std::alloc::Global;
 /// A result with its job, whose packet is in the result, and whose memory goes home with it.
 pub type ReturnedJob = Returned<Job, Done>;
 
-/// What a manager gave back in the cell, where it gave something. The cell's job is blank then.
+/// What a manager gave back in the cell, if it gave something. The cell's job is blank then.
 pub(crate) fn taken(alloc: Global, is_given: bool, given: &mut Cell) -> Option<ReturnedJob>
     requires finished { OnTrue is_given (IsFinished given.old) }
     requires blank { OnFalse is_given (given.old ≡ Open blank) }

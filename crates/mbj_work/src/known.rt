@@ -48,7 +48,7 @@ impl<'k> KnownKeys<'k> {
         Ok(KnownKeys { lender, notes })
     }
 
-    /// Submits a job to a manager, with the entry of its session where that has the job's key, and gives one back in a cell.
+    /// Submits a job to a manager, with the entry of its session if that has the job's key, and gives one back in a cell.
     fn submit(&mut self, manager: &mut Manager, job: Job, given: &mut Cell) -> bool
         requires room { length manager.old.owed < CELLS }
         requires blank { given.old ≡ Open blank }

@@ -106,7 +106,7 @@ impl<'k> Party<'k> {
         self.seat.out()
     }
 
-    /// The cell of a submitter's earliest job that is out, or of its next job where none is out.
+    /// The cell of a submitter's earliest job that is out, or of its next job if none is out.
     pub fn first_cell(&self) -> u32
         requires { IsSubmitter (seat_of self.now) }
         ensures { result ≡ cell_of (part_of self.now).number (part_of self.now).handed }

@@ -89,7 +89,7 @@ impl<'k> Party<'k> {
         }
     }
 
-    /// `collect_at`, which gives the result with its job, where that came back.
+    /// `collect_at`, which gives the result with its job, if that came back.
     pub fn collect_returned<G: Gate>(&mut self, front: &Front, gate: &G) -> Option<ReturnedJob>
         requires { IsPartyOf front.now self.old }
         ensures front { IsPartyOf front.now self.new }

@@ -22,7 +22,7 @@ fn tasks_of(alloc: Global, lists: Vec<Vec<Job>>) -> Result<Vec<Task>, AllocError
     Ok(tasks)
 }
 
-/// Runs each task in a thread of its own where one can be started.
+/// Runs each task in a thread of its own if one can be started.
 fn run_tasks<R: Threads + Sync>(rt: &R, tasks: Vec<Task>) -> Result<Vec<Vec<Done>>, AllocError>
     ensures len { IfOk result (λ rs. length rs.items ≡ length tasks.items) }
     ensures each { IfOk result (λ rs. (i : ℕ) (d : _) (t : _) → i < length tasks.items
@@ -31,7 +31,7 @@ fn run_tasks<R: Threads + Sync>(rt: &R, tasks: Vec<Task>) -> Result<Vec<Vec<Done
     thread::map_vec(rt, tasks, &|task: Task| task.run())
 }
 
-/// Does each list of jobs by a manager of its own, in a thread of its own where one can be started, and returns the
+/// Does each list of jobs by a manager of its own, in a thread of its own if one can be started, and returns the
 /// results of each list, in order.
 ///
 /// Returns `AllocError` for want of memory.

@@ -14,7 +14,7 @@ use std::sync::atomic::AtomicBool;
 use std::sync::atomic::Ordering::SeqCst;
 
 impl<'k> Party<'k> {
-    /// Hunts for jobs, claims and settles them in turn, and waits where there are none. After it has seen the stop flag,
+    /// Hunts for jobs, claims and settles them in turn, and waits if there are none. After it has seen the stop flag,
     /// the first hunt that finds none is its last one. At return its hand is empty.
     pub fn serve<R: Wait, G: Gate>(&mut self, rt: &R, front: &Front, gate: &G, stop: &AtomicBool)
         requires { IsPartyOf front.now self.old }

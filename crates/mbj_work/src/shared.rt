@@ -16,7 +16,7 @@ use std::thread::Threads;
 
 /// Puts the results of each submitter into a vector that has room for them.
 ///
-/// Returns `AllocError` where there was no memory for a submitter's party.
+/// Returns `AllocError` if there was no memory for a submitter's party.
 fn results_of(
     submitters: Vec<Submitter>,
     mut given: Vec<Vec<Done>>,
@@ -34,7 +34,7 @@ fn results_of(
 }
 
 /// Does lists of jobs by one front, whose parties share keys: each list is that of a submitter, and `workers` workers serve beside
-/// them. The last submitter works in this thread, and each other party in a thread of its own where one can be started. Returns the
+/// them. The last submitter works in this thread, and each other party in a thread of its own if one can be started. Returns the
 /// results of each list, in order. Each party takes all its memory before its first job.
 ///
 /// There are 1 to `MAX_SUBMITTERS` lists, and at most `MAX_WORKERS` workers. A worker whose thread can't be started is left

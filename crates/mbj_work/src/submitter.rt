@@ -27,7 +27,7 @@ pub(crate) struct Submitter {
 }
 
 impl<'k> Party<'k> {
-    /// Posts a job. Where all cells of the submitter are in use it collects a result first, and leaves the other jobs out, so
+    /// Posts a job. If all cells of the submitter are in use it collects a result first, and leaves the other jobs out, so
     /// that the workers have some while it posts. So none of its posts finds the cells full.
     fn post_with_room<R: Wait, G: Gate>(
         &mut self,
@@ -103,7 +103,7 @@ impl Submitter {
         })
     }
 
-    /// Makes its party, which shares these keys, and has all its jobs done. Where there is no memory for the party it does nothing.
+    /// Makes its party, which shares these keys, and has all its jobs done. If there is no memory for the party it does nothing.
     #[tactic(auto, unfolding(crate::specs::Inside::Runs::HasJobs))]
     pub(crate) fn run<R: Wait, G: Gate>(&mut self, rt: &R, front: &Front, keys: &Keys, gate: &G)
         requires { HasJobs front.now self.old }
@@ -120,7 +120,7 @@ impl Submitter {
 
     /// Its results.
     ///
-    /// Returns `AllocError` where there was no memory for its party.
+    /// Returns `AllocError` if there was no memory for its party.
     pub(crate) fn into_results(self) -> Result<Vec<Done>, AllocError>
         ensures results { IfOk result (λ v. v ≡ self.results) }
         ensures done { OnOk result (self.is_refused ≡ false) }

@@ -25,7 +25,7 @@ pub struct Turn {
 }
 
 impl<'k> Party<'k> {
-    /// Hunts for jobs from a cell on, and claims those that it finds, `CLAIMS` at most. Where the hand is full it settles its first cell.
+    /// Hunts for jobs from a cell on, and claims those that it finds, `CLAIMS` at most. If the hand is full it settles its first cell.
     /// All results that are finished then are handed back. It waits for nobody.
     pub fn turn(&mut self, front: &Front, from: u32) -> Turn
         requires front { IsPartyOf front.now self.old }
@@ -89,7 +89,7 @@ impl<'k> Party<'k> {
         }
     }
 
-    /// Makes room in the hand, and claims the cell where it is still ready. Returns whether it did.
+    /// Makes room in the hand, and claims the cell if it is still ready. Returns whether it did.
     fn work_on<G: Gate>(&mut self, front: &Front, cell: u32, gate: &G) -> bool
         requires front { IsPartyOf front.now self.old }
         requires cell { cell < cells_of front.now }
@@ -101,7 +101,7 @@ impl<'k> Party<'k> {
         self.claim_ready(front, cell, gate)
     }
 
-    /// Settles the first cell in the hand where the hand is full.
+    /// Settles the first cell in the hand if the hand is full.
     fn make_room<G: Gate>(&mut self, front: &Front, gate: &G)
         requires { IsPartyOf front.now self.old }
         ensures front { IsPartyOf front.now self.new }

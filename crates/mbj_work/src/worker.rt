@@ -17,7 +17,7 @@ use std::sync::atomic::Ordering::SeqCst;
 pub(crate) struct Flags {
     /// Set once all submitters are done.
     pub(crate) stop: AtomicBool,
-    /// Set where there was no memory for a worker's party.
+    /// Set if there was no memory for a worker's party.
     pub(crate) refused: AtomicBool,
 }
 

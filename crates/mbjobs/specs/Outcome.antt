@@ -74,6 +74,6 @@ Stands c cause.Bytes input out = ReadsInput c × ReadsTooMuch input.before input
 Stands c (cause.Jobs line) input out = ReadsBytes input (λ bytes. IsOverFor c bytes line)
 Stands c cause.Memory input out = Unit {0}
 
--- the sink gained the text, or, where its faults rose, a prefix of it
+-- the sink gained the text, or, if its faults rose, a prefix of it
 abbrev pub Gains : Stream → List ℕ → Type 0
 Gains err text = Appends err.before err.after text ⊎ (Fails err × GainsPrefix err.before err.after text)

@@ -15,7 +15,7 @@ pub enum Cause {
     Read,
     /// A write to standard output failed.
     Write,
-    /// The first line that is no session line, job line or command. The field is 0 where the line has too few or too many
+    /// The first line that is no session line, job line or command. The field is 0 if the line has too few or too many
     /// fields, else the first one that isn't as the file's format has it.
     Line { line: u32, field: u32 },
     /// The input is longer than 16,777,216 bytes.

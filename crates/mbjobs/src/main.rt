@@ -41,7 +41,7 @@ fn command_line(rt: &HostRuntime) -> Result<Vec<String>, WordFault> {
     }
 }
 
-/// The status after the buffer of standard output is written. Where that fails, status 0 becomes that of a failed write, and
+/// The status after the buffer of standard output is written. If that fails, status 0 becomes that of a failed write, and
 /// standard error says so.
 fn written<W: Write, E: Sink>(out: &mut W, err: &mut E, status: u8) -> u8
     ensures { (result ≡ status) ⊎ ((status ≡ 0) × (result ≡ status_for Cause.Write)) }

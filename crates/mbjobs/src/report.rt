@@ -44,7 +44,7 @@ pub(crate) fn report<E: Sink>(err: &mut E, cause: Cause)
     }
 }
 
-/// Tells what is wrong with the words, or the help that they ask for; where the text is empty, that they are no command. A
+/// Tells what is wrong with the words, or the help that they ask for; if the text is empty, that they are no command. A
 /// fault of the sink is passed over.
 pub(crate) fn report_words<E: Sink>(err: &mut E, text: &String)
     ensures { (told : List ℕ) × (told ≢ []) × Gains (stream E.held E.faults err.old err.new) told }

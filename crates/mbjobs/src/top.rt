@@ -23,7 +23,7 @@ use std::alloc::Global;
 use std::sync::Wait;
 use std::thread::Threads;
 
-/// The status where the words are no command.
+/// The status if the words are no command.
 const BAD_WORDS: u8 = 2;
 
 /// Writes the line of a cause, and returns its status.
@@ -149,7 +149,7 @@ pub fn mbjobs<R: Threads + Wait + Sync, S: Source, O: Sink, E: Sink, G: Gate + S
         × ((cause ≡ Cause.Memory) ⊎ ((c : Command) × (command (map string_bytes words.now) ≡ Some c)
         × Stands c cause (stream S.rest S.faults input.old input.new) (stream O.held O.faults out.old out.new))) }
 
-    // Where the input tells its bytes and no read fails, each input gets its own status, unless memory runs out.
+    // If the input tells its bytes and no read fails, each input gets its own status, unless memory runs out.
     ensures complete { (c : Command) (bytes text : List ℕ) → command (map string_bytes words.now) ≡ Some c
         → S.rest input.old ≡ Some bytes → length bytes ≤ INPUT_LIMIT → AsksFor c bytes text
         → ¬ Fails (stream S.rest S.faults input.old input.new)

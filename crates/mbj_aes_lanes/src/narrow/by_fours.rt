@@ -8,7 +8,7 @@ use mbj_types::BLOCK_BYTES;
 /// The blocks of a text that go at once, in two registers side by side. More of them would take no less time each.
 pub const BATCH_BLOCKS: usize = 4;
 
-// Fewer than four blocks, with others behind them: in one register, or in two where there are three.
+// Fewer than four blocks, with others behind them: in one register, or in two if there are three.
 #[inline(always)]
 fn change_first<D: Direction>(key: &LaidKey<D>, four: &mut [[u8; 16]; BATCH_BLOCKS], many: usize)
     requires { many < BATCH_BLOCKS }

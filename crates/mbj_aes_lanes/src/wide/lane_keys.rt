@@ -13,7 +13,8 @@ use mbj_aes::{MAX_KEY_BYTES, Schedule};
 use mbj_types::{AES_LANES, AesWord, BLOCK_BYTES, Lane8};
 use std::marker::Model;
 
-// A value in a struct of its own: the literal of a struct has no field that is an array of vectors.
+// A value in a struct of its own: a struct literal with a field that is an array of vectors isn't covered by the borrow checker, and one
+// with a field of any type is.
 #[derive(Drop)]
 struct Held<T: Drop> {
     value: T,

@@ -3,7 +3,7 @@ use Rattle.std.specs.Prelude.{◌≡◌, Option, None, Some, Result, Ok, Err}
 use Rattle.mbj_c.specs.declared.refusal.Refusal.{Refusal}
 use Rattle.mbj_c.specs.declared.refusal.Refusal.TheVariants as refusal
 
--- a call returns and leaves what it should; where it would be done, memory may run out, and then nothing changes
+-- a call returns and leaves what it should; if it would be done, memory may run out, and then nothing changes
 abbrev pub IsDoneAs : {A : Type 0} → Result Unit Refusal → A → A → Result Unit Refusal → A → Type 0
 IsDoneAs (Ok u) next before (Ok v) after = after ≡ next
 IsDoneAs (Ok u) next before (Err r) after = (r ≡ refusal.Memory) × (after ≡ before)

@@ -4,7 +4,7 @@ use Rattle.mbj_manager.specs.State.{ManagerState}
 use Rattle.mbj_c.specs.declared.giving.Call.{Call}
 use Rattle.mbj_c.specs.declared.giving.Call.TheVariants as call
 
--- a job is open where the call submits it
+-- a job is open if the call submits it
 abbrev pub HasJob : Call → ManagerState → Type 0
 HasJob call.Submit m = 0 < length m.opened
 HasJob call.Completed m = Unit {0}

@@ -31,7 +31,7 @@ pub extern "C" fn mbj_c_fill(alloc: Global, handle: &mut Handle, raw: &RawJob<'_
     code(calls::fill(alloc, handle, raw))
 }
 
-/// Submits the job that was filled, and gives the earliest job's result where that is finished.
+/// Submits the job that was filled, and gives the earliest job's result if that is finished.
 ///
 /// Returns true exactly where it gives one, which is then written whole; else `out` stays as it was. `refusal` is 0, or the
 /// code of a refusal: `NoManager` exactly where there is no manager; else `NoJob` exactly where no job is filled; else
@@ -51,7 +51,7 @@ pub extern "C" fn mbj_c_submit(
     calls::give(alloc, handle, Call::Submit, out, refusal)
 }
 
-/// Fills the next job with a copy of C's as `mbj_c_fill` does, and submits it as `mbj_c_submit` does, where it is filled.
+/// Fills the next job with a copy of C's as `mbj_c_fill` does, and submits it as `mbj_c_submit` does, if it is filled.
 ///
 /// It returns as `mbj_c_submit` does. `refusal` is 0, or the code of a refusal: that which `mbj_c_fill` returns, and then no job is filled;
 /// else `NoRoom` exactly where `mbj_c_submit` refuses the job for that, which is filled then and not submitted.
@@ -78,7 +78,7 @@ pub extern "C" fn mbj_c_submit_job(
     }
 }
 
-/// Gives the earliest job's result where that is finished, and runs nothing. It returns as `mbj_c_submit` does, but never
+/// Gives the earliest job's result if that is finished, and runs nothing. It returns as `mbj_c_submit` does, but never
 /// `NoJob`.
 #[unsafe(no_mangle)]
 pub extern "C" fn mbj_c_get_completed(
@@ -93,7 +93,7 @@ pub extern "C" fn mbj_c_get_completed(
     calls::give(alloc, handle, Call::Completed, out, refusal)
 }
 
-/// Finishes the earliest job, and gives its result. It returns as `mbj_c_get_completed` does; where it isn't refused, it
+/// Finishes the earliest job, and gives its result. It returns as `mbj_c_get_completed` does; if it isn't refused, it
 /// returns false exactly where no job is submitted and not given back.
 #[unsafe(no_mangle)]
 pub extern "C" fn mbj_c_flush(
@@ -112,7 +112,7 @@ pub extern "C" fn mbj_c_flush(
 /// Fills jobs with copies of C's, one after another: the first open cell as `mbj_c_fill` does, and then the cells behind it. Returns
 /// how many are filled, and writes to each job's place among the refusals 0, or the code of a refusal, as `mbj_c_fill` returns it:
 /// `Full` exactly where no cell is left behind those that the burst filled. A job that is refused takes no cell, and the jobs behind it
-/// are filled. Where there are fewer places than jobs, the jobs without a place are left out.
+/// are filled. If there are fewer places than jobs, the jobs without a place are left out.
 #[unsafe(no_mangle)]
 pub extern "C" fn mbj_c_fill_burst(
     alloc: Global,

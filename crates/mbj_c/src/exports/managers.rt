@@ -41,7 +41,7 @@ pub extern "C" fn mbj_c_new(alloc: Global, handle: &mut Handle) -> u32
 }
 
 /// Makes a manager as `mbj_c_new` does, whose cells keep more memory of the jobs that were given back: at most `KEPT_BYTES` for each field of
-/// the job, where those of `mbj_c_new` keep `SMALL_BYTES`. Returns what `mbj_c_new` does.
+/// the job, if those of `mbj_c_new` keep `SMALL_BYTES`. Returns what `mbj_c_new` does.
 #[unsafe(no_mangle)]
 pub extern "C" fn mbj_c_new_keeping(alloc: Global, handle: &mut Handle) -> u32
     ensures want_of_memory { result ≡ refusal_code Memory → (made handle.old.manager).0 ≡ Ok tt }

@@ -16,7 +16,7 @@ use crate::{fronts, seat_bursts, seat_calls};
 use std::alloc::Global;
 
 /// Makes a front, and puts a seat of each of its parties into the first places, in the order of their numbers, submitters first. It takes
-/// all the memory of the front and of the managers of its parties. Where `keys` has a set, all parties share it.
+/// all the memory of the front and of the managers of its parties. If `keys` has a set, all parties share it.
 ///
 /// Returns 0, or the code of a refusal: `SeatCount` exactly where there are not 1 to 16 submitters and at most 16 workers; else `NoRoom`
 /// exactly where there are fewer places than parties; else `HasSeat` exactly where one of these places has a seat already; else
@@ -100,7 +100,7 @@ pub extern "C" fn mbj_c_hand(alloc: Global, handle: &mut SeatHandle) -> u32
     seat_calls::hand(alloc, handle)
 }
 
-/// How many of the seat's own jobs are out, posted and their results not collected, at most 512: 0 where there is no seat, and for a
+/// How many of the seat's own jobs are out, posted and their results not collected, at most 512: 0 if there is no seat, and for a
 /// worker's.
 #[unsafe(no_mangle)]
 pub extern "C" fn mbj_c_out(alloc: Global, handle: &mut SeatHandle) -> u32
@@ -122,7 +122,7 @@ pub extern "C" fn mbj_c_seat_free(alloc: Global, handle: &mut SeatHandle) -> boo
 
 /// Posts jobs with copies of C's, one after another, as `mbj_c_post` posts one. Returns how many are posted, and writes to each job's place
 /// among the refusals 0, or the code of a refusal, as `mbj_c_post` returns it. A job that is refused is left out, and the jobs behind it are
-/// posted. Where there are fewer places than jobs, the jobs without a place are left out.
+/// posted. If there are fewer places than jobs, the jobs without a place are left out.
 #[unsafe(no_mangle)]
 pub extern "C" fn mbj_c_post_burst(
     alloc: Global,

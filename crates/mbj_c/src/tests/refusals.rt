@@ -14,7 +14,7 @@ const NO_ROOM: u32 = 26;
 
 const HAS_MANAGER: u32 = 27;
 
-/// Fills and submits the job, and returns for what filling is refused; 0 where it isn't.
+/// Fills and submits the job, and returns for what filling is refused; 0 if it isn't.
 fn fill_and_submit(alloc: Global, handle: &mut Handle, job: &RawJob<'_>) -> u32 {
     let refusal = mbj_c_fill(alloc, handle, job);
     if refusal == 0 {
@@ -43,7 +43,7 @@ fn check_filling(rt: &impl Abort, alloc: Global, handle: &mut Handle) {
     }
 }
 
-// Where one job waits for lanes, the jobs behind it fill the ring. Where every job is done at once, the ring never fills. Either
+// If one job waits for lanes, the jobs behind it fill the ring. If every job is done at once, the ring never fills. Either
 // way filling is refused exactly where all cells are in use.
 #[test]
 fn filling_is_refused_where_all_cells_are_in_use(rt: HostRuntime) {
@@ -118,7 +118,7 @@ fn filling_is_refused_where_a_code_is_none(rt: HostRuntime) {
     close(&rt, alloc, handle);
 }
 
-/// A submission is refused where the room for the range or the tag is a byte short, and nothing is written.
+/// A submission is refused if the room for the range or the tag is a byte short, and nothing is written.
 fn check_without_room(
     rt: &impl Abort,
     alloc: Global,

@@ -119,7 +119,7 @@ fn one_call_is_refused_as_filling_is(rt: HostRuntime) {
     close(&rt, alloc, handle);
 }
 
-/// The call takes the place of a job that was filled before. Where it lacks room the job stays filled, and the next submission takes it.
+/// The call takes the place of a job that was filled before. If it lacks room the job stays filled, and the next submission takes it.
 fn check_filled(rt: &impl Abort, alloc: Global, handle: &mut Handle) {
     let job = cbc_job(&CBC_TEXT, 0);
     let (mut dst, mut tag) = ([7; 16], [7; MAX_TAG_BYTES]);

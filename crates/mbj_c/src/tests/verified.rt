@@ -4,7 +4,7 @@ use super::*;
 /// The code of a refusal, as it is returned to C.
 const WRONG_TAG: u32 = 20;
 
-/// What becomes of the block of test case 2 of the GCM specification where it comes with this tag.
+/// What becomes of the block of test case 2 of the GCM specification if it comes with this tag.
 fn expect_block(rt: &impl Abort, tag: &[u8], code: u32) {
     let mut text = ZEROS_SEALED;
     let found = mbj_gcm_open(&[0; 16], &[0; 12], &NOTHING, &mut text, tag);
@@ -24,7 +24,7 @@ fn a_text_is_opened_by_its_tag_alone(rt: HostRuntime) {
     }
 }
 
-/// What becomes of example 1 of SP 800-38C where it comes with this tag.
+/// What becomes of example 1 of SP 800-38C if it comes with this tag.
 fn expect_ccm(rt: &impl Abort, alloc: Global, tag: &[u8], code: u32, wanted: &[u8]) {
     let mut text = CIPHERTEXT;
     let found = mbj_ccm_open(alloc, &CCM_KEY, &NONCE, &AAD, &mut text, tag);

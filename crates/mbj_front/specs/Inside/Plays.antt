@@ -21,7 +21,7 @@ module _ {J D : Type 0} (owed : J → D) (play : Step (Slot J D)) (m : Mine J D)
   LookTells = let v = m.0.view in let w = after_look v play.word r in
       (n ≡ (place m.0.submitters m.0.workers w, m.1)) × Led owed m.0.submitters m.0.workers v (looking play.word r) w
 
-  -- where the word was the one looked for
+  -- if the word was the one looked for
   abbrev pub ClaimTells : Type 0
   ClaimTells = let v = m.0.view in
       (r ≡ play.first → (j : J) × (let w = after_claim v play.word (owed j) in
@@ -59,7 +59,7 @@ module _ {J D : Type 0} (owed : J → D) (slots : ℕ) where
   abbrev pub ClaimTold : ℕ → ℕ → Mine J D → ℕ → Mine J D → Type 0
   ClaimTold cell hand m r n = ClaimTells owed (step slots cell READY hand none) m r n
 
-  -- whatever the table is at that moment, the word of the cell may become `hand` where it is READY
+  -- whatever the table is at that moment, the word of the cell may become `hand` if it is READY
   abbrev pub ClaimIsAllowed : ℕ → ℕ → ℕ → ℕ → ℕ → Mine J D → Type 0
   ClaimIsAllowed submitters workers seat cell hand m =
       Allows (Rule owed submitters workers) slots seat m cell (λ found. either (found == READY) hand found) (ClaimTold cell hand m)

@@ -17,7 +17,7 @@ pub(crate) struct Squad<'a> {
     pub(crate) jobs: &'a [Job],
 }
 
-/// Posts a copy of the next job, which stays the next one where all cells are in use.
+/// Posts a copy of the next job, which stays the next one if all cells are in use.
 fn post(alloc: Global, s: u32, submitter: &mut Player, jobs: &[Job]) -> Option<ReplayLine> {
     let Some(job) = jobs.get(submitter.next as usize) else {
         return Some(ReplayLine::PostEnd(s));
@@ -74,7 +74,7 @@ fn finish(w: u32, worker: &mut Player) -> Option<ReplayLine> {
     Some(ReplayLine::Finish { worker: w, job })
 }
 
-/// The worker and the submitter of a command, where it is without one of them the first.
+/// The worker and the submitter of a command, if it is without one of them the first.
 fn parties_of(command: Cmd) -> (u32, u32) {
     match command {
         Cmd::Post(s) | Cmd::Collect(s) => (0, s),
@@ -91,7 +91,7 @@ fn push(lines: &mut Lines, line: Option<ReplayLine>) -> Result<(), AllocError> {
 }
 
 impl Squad<'_> {
-    /// Does what a command says, where its parties are there, and adds the lines that tell what it comes to.
+    /// Does what a command says, if its parties are there, and adds the lines that tell what it comes to.
     fn perform(
         &mut self,
         alloc: Global,

@@ -92,7 +92,7 @@ module _ (h : Chaining) where
   AreReady starts bits rests es =
       (i : ℕ) → i < most_lanes → lane_at 32 rests i < idle → IsReady (starts i) (lane_at 32 bits i) (entry_in es i)
 
-  -- the block of an entry that comes after `done` others, or one of zeros where it is made or there is none
+  -- the block of an entry that comes after `done` others, or one of zeros if it is made or there is none
   abbrev pub block_in : HmacState → ℕ → List ℕ
   block_in e done =
       if nat_lt (made_rounds_of e.form) (e.rest - done) then block_before h e (e.rest - done) else replicate h.block_bytes 0

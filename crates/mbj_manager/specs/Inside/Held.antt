@@ -38,7 +38,7 @@ abbrev pub found : ℕ → List PlacedEntry → Option End
 found n [] = None
 found n (w ∷ ws) = if n == w.0 then Some w.1.brings else found n ws
 
--- the course with its entry taken back as it ends, where it is found
+-- the course with its entry taken back as it ends, if it is found
 abbrev pub back_by : CourseState → Option End → CourseState
 back_by c None = c
 back_by c (Some e) = taken_back e c

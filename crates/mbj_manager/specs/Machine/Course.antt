@@ -16,7 +16,7 @@ in_lanes_next left = left
 abbrev pub run_if_full : Cause → Kind → Machine → Machine
 run_if_full at k m = if length (queue_for k m).waiting == lanes_of k then run_within at k m else m
 
--- the job n joins the end of the kind's lane queue, which runs where it is full then
+-- the job n joins the end of the kind's lane queue, which runs if it is full then
 abbrev pub joined : Cause → Kind → ℕ → ℕ → Machine → Machine
 joined at k n rest m = run_if_full at k (record m {
   lanes = with_queue k (record (queue_for k m) { waiting = (queue_for k m).waiting ++ record { number = n; rest = rest } ∷ [] }) m.lanes;

@@ -46,7 +46,7 @@ impl Manager {
         self.engine.open_with(filled);
     }
 
-    /// The range of its packet that the cipher of the earliest job writes, as its offset and its length: empty where the job is refused or
+    /// The range of its packet that the cipher of the earliest job writes, as its offset and its length: empty if the job is refused or
     /// has no cipher.
     ///
     /// Returns `None` exactly where no job is submitted and not given back.

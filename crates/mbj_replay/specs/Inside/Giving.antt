@@ -8,7 +8,7 @@ abbrev pub first_with : List ℕ → Option Done → Option (ℕ × Done)
 first_with (cell ∷ cells) (Some d) = Some (cell, d)
 first_with _ _ = None
 
--- the party finished the cell's job, where there is one
+-- the party finished the cell's job, if there is one
 abbrev pub core_after : ℕ → Option (ℕ × Done) → CoreState → CoreState
 core_after p None c = c
 core_after p (Some given) c = finished c p given.0 given.1

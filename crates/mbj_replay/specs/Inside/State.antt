@@ -38,7 +38,7 @@ EachHolds submitters workers f =
 abbrev pub with_copy : Job → Option Unposted
 with_copy job = Some (record { job = job; copy = job })
 
--- what is kept of the jobs that are not posted, and of those that are posted and not claimed, where the cells of the
+-- what is kept of the jobs that are not posted, and of those that are posted and not claimed, if the cells of the
 -- front are these
 pub record HasStock (jobs : List Job) (submitters : ℕ) (nexts : List ℕ) (unposted : List (Option Unposted)) (posted : List Posted) (cells : ℕ → Cell Job Done) : Type 0 where
   -- the next job of a submitter is one of its own

@@ -51,7 +51,7 @@ pub record IsSound (j : Job) (left : List Step) (out : Option ℕ) (n : Lengths)
 abbrev pub HasSchedule : Job → Option (List ℕ) → Type 0
 HasSchedule j schedule = IsSomeAnd schedule (IsScheduleOf j.key)
 
--- where a step is left of a job that needs the schedule of its key, the schedule is at hand
+-- if a step is left of a job that needs the schedule of its key, the schedule is at hand
 abbrev pub IsKeyed : Job → List Step → Option (List ℕ) → Type 0
 IsKeyed j left schedule = left ≢ [] → needs_schedule j.cipher j.dir ≡ true → HasSchedule j schedule
 

@@ -128,7 +128,7 @@ value_of (Below limit) = below_of limit
 
 -- ---- lines
 
--- the parts of what is left of a text, where anything is
+-- the parts of what is left of a text, if anything is
 abbrev pub parts_left : ℕ → Option (List ℕ) → List (List ℕ)
 parts_left mark None = []
 parts_left mark (Some text) = cut mark text
@@ -190,7 +190,7 @@ job_with vs = record {
   session = vs.1.1.1.0.1;
 }
 
--- what comes of the fields that are left, where there are as many as forms
+-- what comes of the fields that are left, if there are as many as forms
 abbrev pub all_from : {A : Type 0} → (fs : List Form) → Cursor → (Values fs → A) → Read A
 all_from fs cursor make =
     if length cursor.left == length fs then fields_from fs cursor (λ vs. Ok (make vs)) else bad_field 0

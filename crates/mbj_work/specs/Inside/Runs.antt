@@ -42,7 +42,7 @@ module _ (front : SharedFront Job Done Standard) where
   AreSeatsFrom n [] = Unit {0}
   AreSeatsFrom n (seat ∷ seats) = (IsOf front seat × (view_of seat ≡ new_party n)) × AreSeatsFrom (n + 1) seats
 
--- the results are those of the submitter's jobs, in order, where there was memory for its party
+-- the results are those of the submitter's jobs, in order, if there was memory for its party
 abbrev pub HasResults : Submitter → Submitter → Type 0
 HasResults old new = IfSome old.jobs (λ jobs. new.is_refused ≡ false → new.results.items ≡ map result_of jobs.items)
 

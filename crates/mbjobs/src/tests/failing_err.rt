@@ -15,7 +15,7 @@ const FILES: [(&str, &[u64], &[u64], u8); 4] = [
     (FIRST_JOB, &[], &[2], 4),
 ];
 
-/// Compares the status of a run. Standard error, which takes nothing, failed where anything was to be told.
+/// Compares the status of a run. Standard error, which takes nothing, failed if anything was to be told.
 fn check_ending<R: Abort>(rt: &R, ending: &Ending, status: u8, words: &str) {
     let (held, faults) = (ending.err.held(), ending.err.faults());
     let is_untold = held.is_empty() && (faults > 0) == (status != 0);

@@ -134,7 +134,7 @@ impl<'a> Run<'a> {
         self.under(rt, alloc, &OpenGate)
     }
 
-    /// Runs the program, and compares its status, and the text that it writes where that is 0, else tells.
+    /// Runs the program, and compares its status, and the text that it writes if that is 0, else tells.
     pub(super) fn check<R: Host>(&self, rt: &R, alloc: Global, status: u8, text: &[u8]) {
         let ending = self.end(rt, alloc);
         let (out, err): (&[u8], &[u8]) = if status == 0 {

@@ -23,7 +23,7 @@ faulty [] e c (inr h) is_not = absurd h
 faulty (k ∷ ks) e c (inr h) is_not = ap (λ b. cond b c None)
     (false_from_ne_true (is_empty (k ∷ ks)) (λ same. let none : suc (length ks) ≡ 0 = eqb-true _ _ same in absurd (omega (arith, none))))
 
--- where clap, told of the set, finds no fault, the words are the command that was found
+-- if clap, told of the set, finds no fault, the words are the command that was found
 faultless : (words : List Text) (a : App) (rows : List Row) (used : Option (Text × List Row)) (c : Option Command)
     → a ≡ app → (is_simple_and_free a ≡ true → fault_of a words ≡ [])
     → (is_simple a ≡ true → (rows ≡ matches_of a words) × (used ≡ subcommand_of a words))

@@ -1,4 +1,4 @@
--- Where there are no bytes, nothing changes.
+-- If there are no bytes, nothing changes.
 use Rattle.std.proofs.Common.{◌≡◌, ℕ, ◌-◌, List, [], length, take, drop, sym, ap, ◌∙◌, arith, length-drop}
 use Rattle.std.proofs.lemmas.Bool.{eqb-true}
 use Rattle.std.proofs.lemmas.List.{nil_from_length, take_all}

@@ -1,4 +1,4 @@
--- The lane queue with the entry that joined, which runs where it is full.
+-- The lane queue with the entry that joined, which runs if it is full.
 use Rattle.std.proofs.Common.{◌≡◌, ◌∙◌, ℕ, length, vec_capacity, ap, sym, subst, arith}
 use Rattle.mbj_types.specs.Kinds.{lanes_of}
 use Rattle.mbj_manager.specs.Inside.Courses.{courses, number, ring_number}

@@ -11,7 +11,7 @@ use Rattle.mbj_text.proofs.job.job_from.Goals as goal
 abbrev make : CipherFields → Values (drop 7 (forms [])) → Job
 make f vs = job_with (f.cipher, (f.dir, (f.order, (f.key, (f.iv, (f.cipher_off, (f.cipher_len, vs)))))))
 
--- what is read then, where these are the others
+-- what is read then, if these are the others
 abbrev made : CipherFields → AuthFields → Read Job
 made f back =
     Ok (make f (back.auth, (back.auth_key, (back.aad, (back.hash_off, (back.hash_len, (back.tag_len, (back.packet, tt))))))))

@@ -1,4 +1,4 @@
--- The mark stands first where it was found.
+-- The mark stands first if it was found.
 use Rattle.std.proofs.Common.{sym}
 use Rattle.mbj_text.proofs.Cutting.{cut_at}
 use Rattle.mbj_text.proofs.split.cut_once.Goals as goal

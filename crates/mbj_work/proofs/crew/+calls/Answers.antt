@@ -10,7 +10,7 @@ use Rattle.mbj_work.proofs.crew.+calls.Goals as goal
 is_none : (n : ℕ) → (n == 0) ≡ true → n ≡ 0
 is_none n is = search rules
 
--- nothing has changed where there is no submitter
+-- nothing has changed if there is no submitter
 none_changed : (xs : List Submitter) → length xs ≡ 0 → AllZip HasResults xs xs
 none_changed [] none = tt
 none_changed (x ∷ xs) none = absurd (omega (arith, none))

@@ -1,4 +1,4 @@
--- Where the input tells its bytes, what they are decides the status.
+-- If the input tells its bytes, what they are decides the status.
 use Rattle.std.proofs.Common.{◌≡◌, ◌⊎◌, ◌∙◌, arith, inl, inr, refl, subst, sym}
 use Rattle.mbjobs.specs.Outcome.{AsksFor, IsBadFor, IsOverFor}
 use Rattle.mbj_io.specs.Streams.{Stream, stream}

@@ -1,4 +1,4 @@
--- Where the low half does not wrap, neither does the counter.
+-- If the low half does not wrap, neither does the counter.
 use Rattle.std.proofs.Common.{◌≡◌, ℕ, ◌+◌, ◌*◌, ◌/◌, ◌%◌, ◌^◌, ◌<◌, ap, ◌∙◌, arith}
 use Rattle.std.specs.Int.{w128, to_be_bytes}
 use Rattle.mbj_aes_lanes.proofs.narrow.counters.put_counters.Goals as goal

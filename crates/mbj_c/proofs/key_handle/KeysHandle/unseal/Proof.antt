@@ -1,4 +1,4 @@
--- `unseal` compares the pointer with null, and moves it over where it isn't.
+-- `unseal` compares the pointer with null, and moves it over if it isn't.
 use Rattle.std.proofs.Common.{◌≡◌, List, [], ◌∷◌, ◌++◌, refl, sym, subst, lit<}
 use mir.Val.{Val, vptr, vcons, vnil, has_ty}
 use base.Fml.{ftrue}

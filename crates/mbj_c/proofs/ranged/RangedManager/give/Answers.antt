@@ -1,4 +1,4 @@
--- A call with a job, where it takes one, and with room for the first result that is owed isn't refused.
+-- A call with a job, if it takes one, and with room for the first result that is owed isn't refused.
 use Rattle.std.proofs.Common.{◌≡◌, ◌∙◌, ap, false, refl, slice_get, subst, sym, true}
 use Rattle.mbj_manager.proofs.NoneOwed.{none-owed}
 use Rattle.mbj_c.specs.declared.giving.Call.{Call}

@@ -1,4 +1,4 @@
--- Where the text is sealed the part is xored and its ciphertext hashed, and where it is opened the part is hashed and then xored.
+-- If the text is sealed the part is xored and its ciphertext hashed, and if it is opened the part is hashed and then xored.
 use Rattle.mbj_direct.proofs.Taken.{part_is, opened_next, sealed_next}
 use Rattle.mbj_direct.proofs.parts.GcmState.update.Goals as goal
 

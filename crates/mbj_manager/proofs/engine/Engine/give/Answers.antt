@@ -1,4 +1,4 @@
--- Where the earliest job isn't finished nothing changes.
+-- If the earliest job isn't finished nothing changes.
 use Rattle.std.proofs.Common.{◌∙◌, Option, ap, sym}
 use Rattle.mbj_types.specs.declared.done.Done.{Done}
 use Rattle.mbj_manager.specs.State.{ManagerState, after_get_completed}

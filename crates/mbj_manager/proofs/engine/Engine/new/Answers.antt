@@ -22,7 +22,7 @@ idle-seen _ = refl
 empty-held : held nothing [] no_queues ≡ new_manager
 empty-held = ap (λ (f : Kind → Queue). record new_manager { machine = record { left = []; lanes = f; agenda = []; flush_runs = 0 } }) (fun_ext idle-seen)
 
--- what the fields keep, where nothing is in them
+-- what the fields keep, if nothing is in them
 empty-kept : (capacity : ℕ) → agenda_room ≤ capacity → IsHeld nothing [] no_queues capacity
 empty-kept capacity room = record {
   ring = Prim.search rules;

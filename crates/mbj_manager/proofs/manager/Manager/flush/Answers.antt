@@ -1,4 +1,4 @@
--- Where there is a job the earliest is finished then, after two runs at most for each job.
+-- If there is a job the earliest is finished then, after two runs at most for each job.
 use Rattle.std.proofs.Common.{◌≡◌, ◌*◌, ◌++◌, ◌∙◌, List, [], length, Option, ap, ap₂, sym, subst}
 use Rattle.std.specs.Prelude.{option_to_list}
 use Rattle.mbj_types.specs.declared.done.Done.{Done}

@@ -1,4 +1,4 @@
--- A job line is read where one more fits.
+-- A job line is read if one more fits.
 use Rattle.std.proofs.Common.{◌≡◌, ◌≢◌, ◌∙◌, ◌++◌, ap, sym, ℕ, List, [], ◌∷◌, length, map, Ok, arith, rules, vec_len}
 use Rattle.std.specs.declared.vec.Vec.{Vec}
 use Rattle.std.specs.declared.alloc.Global.{Global}
