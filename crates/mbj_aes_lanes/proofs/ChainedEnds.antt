@@ -14,14 +14,14 @@ same-after round f same (suc n) e = same-after round f same n (round e) ∙ same
 -- an entry with n rounds left and the chaining value c is `state n c`, and its next round takes the next of the parts
 module _ {E : Type 0} (round : E → E) (chain : E → List ℕ) (state : ℕ → List ℕ → E) (cipher : List ℕ → List ℕ)
     (parts : List (List ℕ)) (shown : (n : ℕ) (c : List ℕ) → chain (state n c) ≡ c)
-    (led : (n i : ℕ) (c : List ℕ) → i + suc n ≡ length parts
+    (advanced : (n i : ℕ) (c : List ℕ) → i + suc n ≡ length parts
     → round (state (suc n) c) ≡ state n (cipher (xor_lists (get_or parts i []) c))) where
   -- n rounds, which are all that are left, from part i on
   chain-after : (n i : ℕ) (c : List ℕ) → i + n ≡ length parts
       → chain (after round n (state n c)) ≡ last_or c (cbc cipher c (drop i parts))
   chain-after zero i c at = shown 0 c ∙ ap (λ bs. last_or c (cbc cipher c bs)) (sym (drop_all i parts (omega arith)))
   chain-after (suc n) i c at =
-      ap (λ e. chain (after round n e)) (led n i c at)
+      ap (λ e. chain (after round n e)) (advanced n i c at)
       ∙ chain-after n (i + 1) (cipher (xor_lists (get_or parts i []) c)) (omega arith)
       ∙ ap (λ bs. last_or c (cbc cipher c bs)) (sym (drop_more parts i [] (omega arith)))
 

@@ -12,7 +12,7 @@ module _ {E : Type 0} where
   abbrev pub next_chain : (E → List ℕ) → (E → List ℕ) → (E → List ℕ) → E → List ℕ
   next_chain key block chain e = encipher (key e) (input_of block chain e)
 
-  -- the next block is chained: `led` says what an entry is once its next block gave a chaining value, and `kept` what it is with
+  -- the next block is chained: `advanced` says what an entry is once its next block gave a chaining value, and `kept` what it is with
   -- that one
   abbrev pub chained_once : (E → List ℕ) → (E → List ℕ) → (E → List ℕ) → (E → List ℕ → E) → (E → List ℕ → E) → E → E
-  chained_once key block chain led kept e = kept (led e (next_chain key block chain e)) (next_chain key block chain e)
+  chained_once key block chain advanced kept e = kept (advanced e (next_chain key block chain e)) (next_chain key block chain e)

@@ -7,7 +7,7 @@ ghost use Rattle.mbj_aes_lanes.specs.KeyBytes.{IsKeyArray, key_of_array};
 /// Blocks that are chained under a key (SP 800-38A, 6.2): the next block is xored with the chaining value and
 /// enciphered, which gives the next chaining value. The keys of all entries of a type have as many rounds.
 ///
-/// In a run the chaining values stand beside the entries. An entry is led by each, and keeps the last one.
+/// In a run the chaining values stand beside the entries. An entry advances by each, and keeps the last one.
 pub trait ChainedEntry: Drop {
     /// The rounds of the key.
     ghost key_rounds: { ℕ };
@@ -25,7 +25,7 @@ pub trait ChainedEntry: Drop {
     ghost chain_of: { Self → List ℕ };
 
     /// What an entry is once its next block gave the chaining value, which it doesn't keep.
-    ghost led: { Self → List ℕ → Self };
+    ghost advanced: { Self → List ℕ → Self };
 
     /// An entry with another chaining value.
     ghost kept: { Self → List ℕ → Self };
@@ -62,9 +62,9 @@ pub trait ChainedEntry: Drop {
         ensures { result.now ≡ chain_of self.now };
 
     /// The next block gave the chaining value, which the entry doesn't keep.
-    fn lead(&mut self, chain: &[u8; 16])
+    fn advance(&mut self, chain: &[u8; 16])
         requires { 1 ≤ rest_of self.old }
-        ensures { self.new ≡ led self.old chain.now };
+        ensures { self.new ≡ advanced self.old chain.now };
 
     /// The entry keeps the chaining value.
     fn keep(&mut self, chain: &[u8; 16])
@@ -79,8 +79,8 @@ pub trait ChainedEntry: Drop {
     /// One that was kept before is gone.
     ghost keeps_last: { (e : Self) (before chain : List ℕ) → kept (kept e before) chain ≡ kept e chain };
 
-    /// It changes nothing else: what is led, the key, the block, or how many are left.
-    ghost leads_rest: { (e : Self) (before chain last : List ℕ) → kept (led (kept e before) chain) last ≡ kept (led e chain) last };
+    /// It changes nothing else: what is done, the key, the block, or how many are left.
+    ghost advances_rest: { (e : Self) (before chain last : List ℕ) → kept (advanced (kept e before) chain) last ≡ kept (advanced e chain) last };
 
     ghost keeps_key: { (e : Self) (chain : List ℕ) → key_of (kept e chain) ≡ key_of e };
 
@@ -89,8 +89,8 @@ pub trait ChainedEntry: Drop {
     ghost keeps_rest: { (e : Self) (chain : List ℕ) → rest_of (kept e chain) ≡ rest_of e };
 
     /// The key stays.
-    ghost leads_key: { (e : Self) (chain : List ℕ) → key_of (led e chain) ≡ key_of e };
+    ghost advances_key: { (e : Self) (chain : List ℕ) → key_of (advanced e chain) ≡ key_of e };
 
     /// One block fewer is left.
-    ghost falls: { (e : Self) (chain : List ℕ) → rest_of (led e chain) ≡ rest_of e - 1 };
+    ghost falls: { (e : Self) (chain : List ℕ) → rest_of (advanced e chain) ≡ rest_of e - 1 };
 }

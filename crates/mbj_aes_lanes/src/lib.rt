@@ -2,6 +2,7 @@
 //! blocks under keys of their own go one in each lane (`wide`), and few of them, or the blocks of one text, whole in registers (`narrow`).
 #![tactic(auto)]
 
+mod advancing;
 mod blocks;
 mod blocks_cipher;
 mod chained_entry;
@@ -9,7 +10,6 @@ mod few_keys;
 mod gathering;
 mod key_bytes;
 mod lane_blocks;
-mod leading;
 mod narrow;
 mod slot;
 mod slot_keys;
@@ -17,9 +17,9 @@ mod slot_rounds;
 mod slots;
 mod wide;
 
+pub use advancing::advance_all;
 pub use chained_entry::ChainedEntry;
 pub use key_bytes::{bytes_of_key, bytes_of_schedule, schedule_of_bytes};
-pub use leading::lead_all;
 pub use narrow::by_fours::BATCH_BLOCKS;
 pub use narrow::counters::{xor_counters, xor_counters_after};
 pub use narrow::directions::Direction;

@@ -25,13 +25,13 @@ pub trait Slot<E: ChainedEntry> {
         requires most { length slots.now ≤ AES_LANES }
         ensures { MatchOption result (in_lane slots.now lane ≡ None) (λ e. in_lane slots.now lane ≡ Some e.now) };
 
-    /// The entry in a lane is led by a chaining value.
-    fn lead(slots: &mut [Self], lane: usize, chain: &[u8; 16])
+    /// The entry in a lane advances by a chaining value.
+    fn advance(slots: &mut [Self], lane: usize, chain: &[u8; 16])
         requires lane { lane < AES_LANES }
         requires lanes { least ≤ length slots.old }
         requires most { length slots.old ≤ AES_LANES }
         requires rest { HasRounds E.rest_of 1 (in_lane slots.old lane) }
-        ensures { IsWritten AES_LANES lane (option_map (λ e. E.led e chain.now) (in_lane slots.old lane)) (in_lane slots.old) (in_lane slots.new) };
+        ensures { IsWritten AES_LANES lane (option_map (λ e. E.advanced e chain.now) (in_lane slots.old lane)) (in_lane slots.old) (in_lane slots.new) };
 
     /// The entry in a lane keeps a chaining value.
     fn keep(slots: &mut [Self], lane: usize, chain: &[u8; 16])
@@ -60,9 +60,9 @@ impl<E: ChainedEntry> Slot<E> for Option<E> {
     }
 
     #[inline(always)]
-    fn lead(slots: &mut [Option<E>], lane: usize, chain: &[u8; 16]) {
+    fn advance(slots: &mut [Option<E>], lane: usize, chain: &[u8; 16]) {
         if let Some(entry) = &mut slots[lane] {
-            entry.lead(chain);
+            entry.advance(chain);
         }
     }
 
@@ -92,9 +92,9 @@ impl<E: ChainedEntry> Slot<E> for E {
     }
 
     #[inline(always)]
-    fn lead(entries: &mut [E], lane: usize, chain: &[u8; 16]) {
+    fn advance(entries: &mut [E], lane: usize, chain: &[u8; 16]) {
         if lane < entries.len() {
-            ChainedEntry::lead(&mut entries[lane], chain);
+            ChainedEntry::advance(&mut entries[lane], chain);
         }
     }
 

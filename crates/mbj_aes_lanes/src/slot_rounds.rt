@@ -57,9 +57,9 @@ impl<E: ChainedEntry, S: Slot<E>> LaneBlocks for Chains<'_, E, S> {
     }
 }
 
-// Each entry in the first lanes is led by the chaining value of its lane.
+// Each entry in the first lanes advances by the chaining value of its lane.
 #[inline(always)]
-fn lead_each<E: ChainedEntry, S: Slot<E>, const L: usize>(
+fn advance_each<E: ChainedEntry, S: Slot<E>, const L: usize>(
     slots: &mut [S],
     lanes: usize,
     chains: &[[u8; 16]; L],
@@ -69,10 +69,10 @@ fn lead_each<E: ChainedEntry, S: Slot<E>, const L: usize>(
     requires least { S.least ≤ length slots.old }
     requires most { length slots.old ≤ AES_LANES }
     requires rests { HaveRounds E.rest_of 1 (S.in_lane slots.old) }
-    ensures { AreGiven (λ i. option_map (λ e. E.led e (slice_index_or chains.now i []))) lanes (S.in_lane slots.old) (S.in_lane slots.new) }
+    ensures { AreGiven (λ i. option_map (λ e. E.advanced e (slice_index_or chains.now i []))) lanes (S.in_lane slots.old) (S.in_lane slots.new) }
 {
     'lanes: for i in 0..lanes {
-        S::lead(slots, i, &chains[i]);
+        S::advance(slots, i, &chains[i]);
     }
 }
 
@@ -130,10 +130,10 @@ fn give_cmac_l<C: BlocksCipher<L>, E: ChainedEntry, S: Slot<E>, const L: usize>(
     }
 }
 
-/// Leads each entry by `m` blocks, under the schedule in its lane. In each pass the next block of every entry is chained, all at once; the
+/// Advances each entry by `m` blocks, under the schedule in its lane. In each pass the next block of every entry is chained, all at once; the
 /// chaining values stand beside the entries, which keep theirs at the end.
 #[inline(never)]
-pub fn lead_by<C: BlocksCipher<L>, E: ChainedEntry, S: Slot<E>, const L: usize>(
+pub fn advance_by<C: BlocksCipher<L>, E: ChainedEntry, S: Slot<E>, const L: usize>(
     slots: &mut [S],
     m: u32,
     cipher: &C,
@@ -145,7 +145,7 @@ pub fn lead_by<C: BlocksCipher<L>, E: ChainedEntry, S: Slot<E>, const L: usize>(
     requires idle { AreIdleFrom (C.lanes_of cipher.now) (S.in_lane slots.old) }
     requires keys { AreKeyed E.key_of (S.in_lane slots.old) (C.lanes_of cipher.now) (C.schedule_of cipher.now) }
     ensures { (i : ℕ) → i < AES_LANES → S.in_lane slots.new i
-        ≡ option_map (after (chained_once E.key_of E.block_of E.chain_of E.led E.kept) m) (S.in_lane slots.old i) }
+        ≡ option_map (after (chained_once E.key_of E.block_of E.chain_of E.advanced E.kept) m) (S.in_lane slots.old i) }
 {
     give_cmac_l::<C, E, S, L>(slots, m, cipher);
     let lanes = cipher.lane_count();
@@ -159,7 +159,7 @@ pub fn lead_by<C: BlocksCipher<L>, E: ChainedEntry, S: Slot<E>, const L: usize>(
             of: PhantomData,
         };
         cipher.chain(&blocks, &mut chains);
-        lead_each::<E, S, L>(slots, lanes, &cipher.store(&chains));
+        advance_each::<E, S, L>(slots, lanes, &cipher.store(&chains));
     }
     keep_each::<E, S, L>(slots, lanes, &cipher.store(&chains));
 }

@@ -9,8 +9,8 @@ ghost use Rattle.mbj_aes_lanes.specs.ChainedEntry.{chained_once};
 ghost use Rattle.mbj_aes_lanes.specs.Inside.Slots.{HaveRounds};
 ghost use Rattle.mbj_aes_lanes.specs.Slots.{slot_at};
 
+use crate::advancing::{advance_all, advance_slots};
 use crate::chained_entry::ChainedEntry;
-use crate::leading::{lead_all, lead_slots};
 use crate::wide::words::MAX_SCHEDULE_WORDS;
 use mbj_lane::{Kernel, SlotKernel};
 use mbj_types::{AES_LANES, AesWord, Lane8};
@@ -76,14 +76,14 @@ impl<E: ChainedEntry> Kernel for Chained<E> {
 
     ghost rest_of = { E.rest_of };
 
-    ghost round = { chained_once E.key_of E.block_of E.chain_of E.led E.kept };
+    ghost round = { chained_once E.key_of E.block_of E.chain_of E.advanced E.kept };
 
     fn rest(entry: &E) -> u32 {
         entry.rest()
     }
 
     fn run(entries: &mut [E], m: u32) {
-        lead_all(entries, m);
+        advance_all(entries, m);
     }
 
     ghost use Rattle.std.proofs.Common.{◌∙◌, rules};
@@ -93,7 +93,7 @@ impl<E: ChainedEntry> Kernel for Chained<E> {
 
     ghost few = { Prim.search rules };
 
-    ghost falls = { λ e. E.keeps_rest (E.led e (next_chain E.key_of E.block_of E.chain_of e)) (next_chain E.key_of E.block_of E.chain_of e)
+    ghost falls = { λ e. E.keeps_rest (E.advanced e (next_chain E.key_of E.block_of E.chain_of e)) (next_chain E.key_of E.block_of E.chain_of e)
         ∙ E.falls e (next_chain E.key_of E.block_of E.chain_of e) };
 }
 
@@ -134,7 +134,7 @@ impl<E: ChainedEntry> SlotKernel for Chained<E> {
     }
 
     fn run_all(slots: &mut ChainedSlots<E>, m: u32) {
-        lead_slots(
+        advance_slots(
             slots.entries.as_mut_slice(),
             m,
             slots.round_keys.as_mut_slice(),

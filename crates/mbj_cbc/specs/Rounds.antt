@@ -32,8 +32,8 @@ abbrev pub block_of : CbcState → List ℕ
 block_of e = range (next_block_at e) 16 e.packet
 
 -- the next block gave the ciphertext block c, which stands in its place
-abbrev pub led : CbcState → List ℕ → CbcState
-led e c = record e {
+abbrev pub advanced : CbcState → List ℕ → CbcState
+advanced e c = record e {
   packet = take (next_block_at e) e.packet ++ c ++ drop (next_block_at e + 16) e.packet;
   rest = e.rest - 1;
 }
@@ -46,7 +46,7 @@ kept e c = record e { chain = c }
 abbrev pub round : CbcState → CbcState
 round e =
     let c = encipher e.key (xor_lists (block_of e) e.chain) in
-    kept (led e c) c
+    kept (advanced e c) c
 
 -- an encryption of which nothing is done
 abbrev pub started : List ℕ → List ℕ → List ℕ → ℕ → ℕ → CbcState

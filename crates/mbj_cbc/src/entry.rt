@@ -6,7 +6,7 @@ ghost use Rattle.mbj_types.specs.Rounds.{cbc_rounds};
 ghost use Rattle.mbj_aes.specs.Bytes.{IsKeySize, IsRoundCount};
 ghost use Rattle.mbj_aes_lanes.specs.KeyBytes.{IsKeyArray, key_of_array};
 ghost use Rattle.mbj_lane.specs.Rounds.{end_of};
-ghost use Rattle.mbj_cbc.specs.Rounds.{CbcState, key_of, rest_of, block_of, chain_of, led, kept, next_block_at, round, started};
+ghost use Rattle.mbj_cbc.specs.Rounds.{CbcState, key_of, rest_of, block_of, chain_of, advanced, kept, next_block_at, round, started};
 
 use mbj_aes::Schedule;
 use mbj_aes_lanes::{Chained, ChainedEntry, bytes_of_key, bytes_of_schedule};
@@ -135,7 +135,7 @@ impl<const N: usize> ChainedEntry for CbcEntry<N> {
 
     ghost chain_of = { chain_of };
 
-    ghost led = { led };
+    ghost advanced = { advanced };
 
     ghost kept = { kept };
 
@@ -175,7 +175,7 @@ impl<const N: usize> ChainedEntry for CbcEntry<N> {
     }
 
     #[inline(always)]
-    fn lead(&mut self, chain: &[u8; 16]) {
+    fn advance(&mut self, chain: &[u8; 16]) {
         let at = self.next_block_at();
         self.packet[at..at + BLOCK_BYTES].copy_from_slice(chain);
         self.rest -= 1;
@@ -192,7 +192,7 @@ impl<const N: usize> ChainedEntry for CbcEntry<N> {
 
     ghost keeps_last = { λ e b c. refl };
 
-    ghost leads_rest = { λ e b c l. refl };
+    ghost advances_rest = { λ e b c l. refl };
 
     ghost keeps_key = { λ e c. refl };
 
@@ -200,7 +200,7 @@ impl<const N: usize> ChainedEntry for CbcEntry<N> {
 
     ghost keeps_rest = { λ e c. refl };
 
-    ghost leads_key = { λ e c. refl };
+    ghost advances_key = { λ e c. refl };
 
     ghost falls = { λ e c. refl };
 }

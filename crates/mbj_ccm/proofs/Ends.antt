@@ -32,9 +32,9 @@ module _ (key iv aad packet : List ℕ) (off len tag_len : ℕ) (h : off + len �
   many = length-ccm_blocks iv aad (range off len packet) tag_len ∙ ap (ccm_rounds (length aad)) (length-range off len packet h)
 
   -- a round takes the next block
-  led : (n i : ℕ) (chain : List ℕ) → i + suc n ≡ length parts
+  advanced : (n i : ℕ) (chain : List ℕ) → i + suc n ≡ length parts
       → round (state (suc n) chain) ≡ state n (encipher key (xor_lists (get_or parts i []) chain))
-  led n i chain at =
+  advanced n i chain at =
       let place : ccm_rounds (length aad) len - suc n ≡ i = omega (arith, many) in
       let fewer : suc n - 1 ≡ n = omega arith in
       ap₂ (λ (m k : ℕ). state m (encipher key (xor_lists (get_or parts k []) chain))) fewer place
@@ -44,4 +44,4 @@ module _ (key iv aad packet : List ℕ) (off len tag_len : ℕ) (h : off + len �
       ≡ ccm_mac (encipher key) iv aad (range off len packet) tag_len
   unfolding ccm_mac
   mac_end =
-      chain_end round chain_of state (encipher key) parts (λ n c. refl) led (ccm_rounds (length aad) len) zero_block (sym many)
+      chain_end round chain_of state (encipher key) parts (λ n c. refl) advanced (ccm_rounds (length aad) len) zero_block (sym many)

@@ -37,8 +37,8 @@ abbrev pub block_of : CcmState → List ℕ
 block_of e = slice_index_or (blocks_of e) (ccm_rounds (length e.aad) e.len - e.rest) []
 
 -- the next block gave a chaining value
-abbrev pub led : CcmState → List ℕ → CcmState
-led e c = record e { rest = e.rest - 1 }
+abbrev pub advanced : CcmState → List ℕ → CcmState
+advanced e c = record e { rest = e.rest - 1 }
 
 -- c is the chaining value
 abbrev pub kept : CcmState → List ℕ → CcmState
@@ -48,7 +48,7 @@ kept e c = record e { chain = c }
 abbrev pub round : CcmState → CcmState
 round e =
     let c = encipher e.key (xor_lists (block_of e) e.chain) in
-    kept (led e c) c
+    kept (advanced e c) c
 
 -- a MAC of which nothing is done
 abbrev pub started : List ℕ → List ℕ → List ℕ → List ℕ → ℕ → ℕ → ℕ → CcmState

@@ -4,7 +4,7 @@ ghost use Rattle.mbj_types.specs.Ccm.{ccm_mac};
 ghost use Rattle.mbj_types.specs.Result.{range};
 ghost use Rattle.mbj_types.specs.Rounds.{data_rounds, ccm_rounds};
 ghost use Rattle.mbj_lane.specs.Rounds.{end_of};
-ghost use Rattle.mbj_ccm.specs.Rounds.{CcmState, key_of, rest_of, chain_of, blocks_of, block_of, led, kept, round, started};
+ghost use Rattle.mbj_ccm.specs.Rounds.{CcmState, key_of, rest_of, chain_of, blocks_of, block_of, advanced, kept, round, started};
 
 use crate::format::{data_block, data_rounds, filled_from, first_block};
 use mbj_aes::Schedule;
@@ -178,7 +178,7 @@ impl<const N: usize> ChainedEntry for CcmEntry<N> {
 
     ghost chain_of = { chain_of };
 
-    ghost led = { led };
+    ghost advanced = { advanced };
 
     ghost kept = { kept };
 
@@ -224,7 +224,7 @@ impl<const N: usize> ChainedEntry for CcmEntry<N> {
     }
 
     #[inline(always)]
-    fn lead(&mut self, _chain: &[u8; 16]) {
+    fn advance(&mut self, _chain: &[u8; 16]) {
         self.rest -= 1;
     }
 
@@ -239,7 +239,7 @@ impl<const N: usize> ChainedEntry for CcmEntry<N> {
 
     ghost keeps_last = { λ e b c. refl };
 
-    ghost leads_rest = { λ e b c l. refl };
+    ghost advances_rest = { λ e b c l. refl };
 
     ghost keeps_key = { λ e c. refl };
 
@@ -247,7 +247,7 @@ impl<const N: usize> ChainedEntry for CcmEntry<N> {
 
     ghost keeps_rest = { λ e c. refl };
 
-    ghost leads_key = { λ e c. refl };
+    ghost advances_key = { λ e c. refl };
 
     ghost falls = { λ e c. refl };
 }

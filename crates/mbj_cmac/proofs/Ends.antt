@@ -98,16 +98,16 @@ module _ (key packet : List ℕ) (off len : ℕ) (h : off + len ≤ length packe
   many = length-closed_blocks (encipher key) (range off len packet) ∙ ap cmac_rounds (length-range off len packet h)
 
   -- a round takes the next block
-  led : (n i : ℕ) (chain : List ℕ) → i + suc n ≡ length parts
+  advanced : (n i : ℕ) (chain : List ℕ) → i + suc n ≡ length parts
       → round (state (suc n) chain) ≡ state n (encipher key (xor_lists (get_or parts i []) chain))
-  led n i chain at =
+  advanced n i chain at =
       let place : cmac_rounds len - suc n ≡ i = omega (arith, many) in
       let fewer : suc n - 1 ≡ n = omega arith in
       ap₂ (λ (m k : ℕ). state m (encipher key (xor_lists (get_or parts k []) chain))) fewer place
 
   -- at the end the chaining value is the CMAC
   pub mac_end : (end_of round rest_of (started key packet off len)).chain ≡ cmac (encipher key) (range off len packet)
-  mac_end = chain_end round chain_of state (encipher key) parts (λ n c. refl) led (cmac_rounds len) zero_block (sym many)
+  mac_end = chain_end round chain_of state (encipher key) parts (λ n c. refl) advanced (cmac_rounds len) zero_block (sym many)
 
   -- and the packet is as it was given
   pub packet_end : (end_of round rest_of (started key packet off len)).packet ≡ packet

@@ -34,8 +34,8 @@ abbrev pub block_of : CmacState → List ℕ
 block_of e = slice_index_or (blocks_of e) (cmac_rounds e.len - e.rest) []
 
 -- the next block gave a chaining value
-abbrev pub led : CmacState → List ℕ → CmacState
-led e c = record e { rest = e.rest - 1 }
+abbrev pub advanced : CmacState → List ℕ → CmacState
+advanced e c = record e { rest = e.rest - 1 }
 
 -- c is the chaining value
 abbrev pub kept : CmacState → List ℕ → CmacState
@@ -45,7 +45,7 @@ kept e c = record e { chain = c }
 abbrev pub round : CmacState → CmacState
 round e =
     let c = encipher e.key (xor_lists (block_of e) e.chain) in
-    kept (led e c) c
+    kept (advanced e c) c
 
 -- a CMAC of which nothing is done
 abbrev pub started : List ℕ → List ℕ → ℕ → ℕ → CmacState

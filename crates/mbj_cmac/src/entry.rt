@@ -8,7 +8,7 @@ ghost use Rattle.mbj_aes.specs.Bytes.{IsKeySize, IsRoundCount};
 ghost use Rattle.mbj_aes_lanes.specs.KeyBytes.{IsKeyArray, key_of_array};
 ghost use Rattle.mbj_lane.specs.Rounds.{end_of};
 ghost use Rattle.mbj_cmac.specs.Inside.Sound.{last_part};
-ghost use Rattle.mbj_cmac.specs.Rounds.{CmacState, key_of, rest_of, block_of, chain_of, led, kept, round, started};
+ghost use Rattle.mbj_cmac.specs.Rounds.{CmacState, key_of, rest_of, block_of, chain_of, advanced, kept, round, started};
 
 use crate::closing::{closed_block, closed_by, doubled};
 use mbj_aes::Schedule;
@@ -173,7 +173,7 @@ impl<const N: usize> ChainedEntry for CmacEntry<N> {
 
     ghost chain_of = { chain_of };
 
-    ghost led = { led };
+    ghost advanced = { advanced };
 
     ghost kept = { kept };
 
@@ -224,7 +224,7 @@ impl<const N: usize> ChainedEntry for CmacEntry<N> {
     }
 
     #[inline(always)]
-    fn lead(&mut self, _chain: &[u8; 16]) {
+    fn advance(&mut self, _chain: &[u8; 16]) {
         self.rest -= 1;
     }
 
@@ -239,7 +239,7 @@ impl<const N: usize> ChainedEntry for CmacEntry<N> {
 
     ghost keeps_last = { λ e b c. refl };
 
-    ghost leads_rest = { λ e b c l. refl };
+    ghost advances_rest = { λ e b c l. refl };
 
     ghost keeps_key = { λ e c. refl };
 
@@ -247,7 +247,7 @@ impl<const N: usize> ChainedEntry for CmacEntry<N> {
 
     ghost keeps_rest = { λ e c. refl };
 
-    ghost leads_key = { λ e c. refl };
+    ghost advances_key = { λ e c. refl };
 
     ghost falls = { λ e c. refl };
 }

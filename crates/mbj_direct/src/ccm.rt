@@ -14,8 +14,8 @@ use mbj_types::xor_in_place;
 use std::alloc::{AllocError, Global};
 use std::slice;
 
-// Leads an entry to its end, alone in its lanes.
-fn led<K: Kernel>(entry: K::Entry) -> K::Entry
+// Advances an entry to its end, alone in its lanes.
+fn advanced<K: Kernel>(entry: K::Entry) -> K::Entry
     requires { FitsInMemory K.Entry.row }
     ensures end { result ≡ end_of K.round K.rest_of entry }
     ensures done { K.rest_of result ≡ 0 }
@@ -47,7 +47,7 @@ fn mac_in_rounds<const N: usize>(
 {
     let len = plaintext.len() as u32;
     let entry = CcmEntry::<N>::new(key, nonce, aad, plaintext, 0, len, tag_len);
-    let (plaintext, _nonce, _aad, mac) = led::<CcmKernel<N>>(entry).into_parts();
+    let (plaintext, _nonce, _aad, mac) = advanced::<CcmKernel<N>>(entry).into_parts();
     (plaintext, mac)
 }
 

@@ -86,7 +86,7 @@ module _ (h : Chaining) (std : IsStandard h) where
     ]
 
     -- a busy lane with rest r and turn t, behind d others, of which k is what its HMAC has left
-    module _ (r t d k : ℕ) (led : List ℕ) (tied : IsTied r t e) (busy : r < idle) (left : d < r) (is : k ≡ outer_left r t) where
+    module _ (r t d k : ℕ) (advanced : List ℕ) (tied : IsTied r t e) (busy : r < idle) (left : d < r) (is : k ≡ outer_left r t) where
       rest : r ≡ e.rest
       rest = tied_rest r t e tied busy
 
@@ -94,14 +94,14 @@ module _ (h : Chaining) (std : IsStandard h) where
       is' = is ∙ ap (λ x. outer_left x t) rest
 
       -- its block is read, if this isn't the digest's
-      pub read_led : (k ≡ d + 1 → ⊥) → led ≡ h.compress c (block_in h e d) → led ≡ h.compress c (block_before h (with_chains c n e) (e.rest - d))
-      read_led apart next =
+      pub read_advanced : (k ≡ d + 1 → ⊥) → advanced ≡ h.compress c (block_in h e d) → advanced ≡ h.compress c (block_before h (with_chains c n e) (e.rest - d))
+      read_advanced apart next =
           let some : made_rounds_of e.form < e.rest - d = unmade e.form e.rest t k d (tied_turn r t e tied busy) is' apart (omega (arith, rest)) in
           let read : block_in h e d ≡ block_before h e (e.rest - d) = rw (lt-ltb (made_rounds_of e.form) (e.rest - d) some) refl in
           next ∙ ap (h.compress c) (read ∙ same_block (e.rest - d) some)
 
       -- and else made
-      pub made_led : k ≡ d + 1 → led ≡ h.compress c (digest_block h e.hash n) → led ≡ h.compress c (block_before h (with_chains c n e) (e.rest - d))
-      made_led same next =
+      pub made_advanced : k ≡ d + 1 → advanced ≡ h.compress c (digest_block h e.hash n) → advanced ≡ h.compress c (block_before h (with_chains c n e) (e.rest - d))
+      made_advanced same next =
           let last = made_last e.form e.rest t k d (tied_turn r t e tied busy) is' same in
           rw last.1 (next ∙ ap (h.compress c) (sym (digest_is last.0)))

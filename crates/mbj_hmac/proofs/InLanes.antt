@@ -10,7 +10,7 @@ use Rattle.mbj_lane.specs.Rounds.{after}
 use Rattle.mbj_lane.specs.Laws.{after-after}
 use Rattle.mbj_lane.specs.Slots.{IsBusy, IsLeast, IsWritten}
 use Rattle.mbj_lane.proofs.Halfway.{halfway, get_or-halfway, set-halfway}
-use Rattle.mbj_hmac.specs.Rounds.{Chaining, HmacState, advanced, block_before, is_turn, outer_rounds, rest_of, round, turned}
+use Rattle.mbj_hmac.specs.Rounds.{Chaining, HmacState, compressed_once, block_before, is_turn, outer_rounds, rest_of, round, turned}
 use Rattle.mbj_hmac.specs.Laws.Tests.{not_both}
 use Rattle.mbj_hmac.specs.Inside.InLanes.{AreReady, AreTied, IsReady, IsTied, blank, entry_in, idle, lowered, most_lanes, moved, never, reach_at, reach_of, seen_at, slot_at, turn_of, with_chains}
 use Rattle.mbj_hmac.specs.Slots.{slot_in, slots_of}
@@ -171,17 +171,17 @@ lane_turned h r t c n s e tied busy start =
 
 -- ---- blocks
 
--- a pass leads the hash value of a lane by one block
-pub pass_led : (h : Chaining) (d : ℕ) (c n now led : List ℕ) (e : HmacState)
-    → now ≡ (after (advanced h) d (with_chains c n e)).chain → led ≡ h.compress now (block_before h (with_chains now n e) (e.rest - d))
-    → led ≡ (after (advanced h) (d + 1) (with_chains c n e)).chain
-pass_led h d c n now led e state next =
+-- a pass advances the hash value of a lane by one block
+pub pass_advanced : (h : Chaining) (d : ℕ) (c n now advanced : List ℕ) (e : HmacState)
+    → now ≡ (after (compressed_once h) d (with_chains c n e)).chain → advanced ≡ h.compress now (block_before h (with_chains now n e) (e.rest - d))
+    → advanced ≡ (after (compressed_once h) (d + 1) (with_chains c n e)).chain
+pass_advanced h d c n now advanced e state next =
     next ∙ ap (λ s. h.compress s (block_before h (with_chains c n e) (e.rest - d))) state ∙ sym (chain_next h d (with_chains c n e))
 
 -- an entry goes on by m blocks, with its lane
-pub lane_led : (h : Chaining) (m : ℕ) (c n led : List ℕ) (e x : HmacState) → led ≡ (after (advanced h) m (with_chains c n e)).chain → x ≡ moved m e
-    → with_chains led n x ≡ after (advanced h) m (with_chains c n e)
-lane_led h m c n led e x is move = ap₂ (λ s y. with_chains s n y) is move ∙ sym (after_moved h m (with_chains c n e))
+pub lane_advanced : (h : Chaining) (m : ℕ) (c n advanced : List ℕ) (e x : HmacState) → advanced ≡ (after (compressed_once h) m (with_chains c n e)).chain → x ≡ moved m e
+    → with_chains advanced n x ≡ after (compressed_once h) m (with_chains c n e)
+lane_advanced h m c n advanced e x is move = ap₂ (λ s y. with_chains s n y) is move ∙ sym (after_moved h m (with_chains c n e))
 
 -- ---- a run by m rounds, of which `left` are left, in a lane that had r0 left and has r
 
@@ -217,13 +217,13 @@ all_left m left first now turns es tied within is rest some i h =
     lane_some m left r0 (lane_at 32 now i) (tied_le r0 (lane_at 32 turns i) (entry_in es i) (tied.tied i h)) within (is i h) (rest i h) some
 
 -- its entry after a stretch by len
-pub led_on : (h : Chaining) (m left len : ℕ) (first now turns led : HmacState) → left ≤ m → 0 < len → len ≤ left
-    → now ≡ after (round h) (m - left) first → turns ≡ turned h now → led ≡ after (advanced h) len turns → len ≤ reach_of now
-    → led ≡ after (round h) (m - (left - len)) first
-led_on h m left zero first now turns led within some le is turn blocks reach = absurd (omega arith)
-led_on h m left (suc k) first now turns led within some le is turn blocks reach =
+pub advanced_on : (h : Chaining) (m left len : ℕ) (first now turns advanced : HmacState) → left ≤ m → 0 < len → len ≤ left
+    → now ≡ after (round h) (m - left) first → turns ≡ turned h now → advanced ≡ after (compressed_once h) len turns → len ≤ reach_of now
+    → advanced ≡ after (round h) (m - (left - len)) first
+advanced_on h m left zero first now turns advanced within some le is turn blocks reach = absurd (omega arith)
+advanced_on h m left (suc k) first now turns advanced within some le is turn blocks reach =
     let sum : (m - left) + suc k ≡ m - (left - suc k) = omega arith in
-    blocks ∙ ap (after (advanced h) (suc k)) turn ∙ sym (rounds_are_blocks h k now reach)
+    blocks ∙ ap (after (compressed_once h) (suc k)) turn ∙ sym (rounds_are_blocks h k now reach)
     ∙ ap (after (round h) (suc k)) is ∙ after-after (round h) (m - left) (suc k) first ∙ ap (λ n. after (round h) n first) sum
 
 -- ---- slots
@@ -281,10 +281,10 @@ ready_set h starts starts' bits bits' rests rests' turns es i n x lt few tied ot
 ]
 
 -- slot j is as before
-pub slot_same : (lane led inner done : ℕ → List ℕ) (rests rests' : List ℕ) (es : List HmacState) (x : HmacState) (i j : ℕ) → (j ≡ i → ⊥)
-    → lane_at 32 rests' j ≡ lane_at 32 rests j → led j ≡ lane j → done j ≡ inner j
-    → slot_at led done rests' (set es i x) j ≡ slot_at lane inner rests es j
-slot_same lane led inner done rests rests' es x i j apart rest chain first = rw (rest, chain, first, get_or-set_other es i j x blank apart) refl
+pub slot_same : (lane advanced inner done : ℕ → List ℕ) (rests rests' : List ℕ) (es : List HmacState) (x : HmacState) (i j : ℕ) → (j ≡ i → ⊥)
+    → lane_at 32 rests' j ≡ lane_at 32 rests j → advanced j ≡ lane j → done j ≡ inner j
+    → slot_at advanced done rests' (set es i x) j ≡ slot_at lane inner rests es j
+slot_same lane advanced inner done rests rests' es x i j apart rest chain first = rw (rest, chain, first, get_or-set_other es i j x blank apart) refl
 
 -- entries without a round left, and one more
 pub idle_push : (es : List HmacState) (x : HmacState) → x.rest ≡ 0 → ((j : ℕ) → (entry_in es j).rest ≡ 0) → (j : ℕ) → (entry_in (es ++ x ∷ []) j).rest ≡ 0
@@ -312,15 +312,15 @@ module _ (n : ℕ) (lane inner : ℕ → List ℕ) (rests turns : List ℕ) (es 
       ap (λ (e : HmacState). e.rest) read.0 ∙ ap (λ (e : HmacState). e.rest) read.1 ∙ done busy.0 busy.1
 
   -- slot i is idle now, and the others are as they were
-  pub slot_left : (led done : ℕ → List ℕ) (rests' : List ℕ) (i : ℕ) (x : HmacState) → i < n → lane_at 32 rests' i ≡ idle
-      → ((j : ℕ) → j < most_lanes → (j ≡ i → ⊥) → lane_at 32 rests' j ≡ lane_at 32 rests j) → ((j : ℕ) → led j ≡ lane j) → ((j : ℕ) → done j ≡ inner j)
-      → IsWritten n i None (slot_in s) (slot_in (slots_of n (slot_at led done rests' (set es i x))))
-  slot_left led done rests' i x lt none rest chain first =
-      let slots = slot_at led done rests' (set es i x) in
+  pub slot_left : (advanced done : ℕ → List ℕ) (rests' : List ℕ) (i : ℕ) (x : HmacState) → i < n → lane_at 32 rests' i ≡ idle
+      → ((j : ℕ) → j < most_lanes → (j ≡ i → ⊥) → lane_at 32 rests' j ≡ lane_at 32 rests j) → ((j : ℕ) → advanced j ≡ lane j) → ((j : ℕ) → done j ≡ inner j)
+      → IsWritten n i None (slot_in s) (slot_in (slots_of n (slot_at advanced done rests' (set es i x))))
+  slot_left advanced done rests' i x lt none rest chain first =
+      let slots = slot_at advanced done rests' (set es i x) in
       record {
-        here = slot_is n slots i lt ∙ slot_idle led done rests' (set es i x) i none;
+        here = slot_is n slots i lt ∙ slot_idle advanced done rests' (set es i x) i none;
         others = λ j l apart.
-            slot_is n slots j l ∙ slot_same lane led inner done rests rests' es x i j apart (rest j (omega arith) apart) (chain j) (first j) ∙ sym (slot_here j l);
+            slot_is n slots j l ∙ slot_same lane advanced inner done rests rests' es x i j apart (rest j (omega arith) apart) (chain j) (first j) ∙ sym (slot_here j l);
       }
 
   -- a busy lane is that of a slot with an entry
@@ -343,18 +343,18 @@ module _ (n : ℕ) (lane inner : ℕ → List ℕ) (rests turns : List ℕ) (es 
       }
 
   -- the slots after m rounds
-  pub slots_led : (f : HmacState → HmacState) (m : ℕ) (led done : ℕ → List ℕ) (rests' : List ℕ) (es' : List HmacState)
-      → ((i : ℕ) → i < most_lanes → lane_at 32 rests i < idle → seen_at led done es' i ≡ f (seen_at lane inner es i))
+  pub slots_advanced : (f : HmacState → HmacState) (m : ℕ) (advanced done : ℕ → List ℕ) (rests' : List ℕ) (es' : List HmacState)
+      → ((i : ℕ) → i < most_lanes → lane_at 32 rests i < idle → seen_at advanced done es' i ≡ f (seen_at lane inner es i))
       → ((i : ℕ) → i < most_lanes → lane_at 32 rests' i ≡ lowered m (lane_at 32 rests i))
-      → (i : ℕ) → i < n → slot_in (slots_of n (slot_at led done rests' es')) i ≡ option_map f (slot_in s i)
-  slots_led f m led done rests' es' moves falls i lt =
+      → (i : ℕ) → i < n → slot_in (slots_of n (slot_at advanced done rests' es')) i ≡ option_map f (slot_in s i)
+  slots_advanced f m advanced done rests' es' moves falls i lt =
       let h : i < most_lanes = omega arith in
       let r : ℕ = lane_at 32 rests i in
-      slot_is n (slot_at led done rests' es') i lt ∙ elim (cases_lt r idle) [
+      slot_is n (slot_at advanced done rests' es') i lt ∙ elim (cases_lt r idle) [
         | inl busy ↦
             let busy' : lane_at 32 rests' i < idle = let less : lane_at 32 rests' i ≡ r - m = falls i h ∙ lowered_busy m r busy in omega arith in
-            slot_busy led done rests' es' i busy' ∙ ap Some (moves i h busy) ∙ sym (ap (option_map f) (slot_here i lt ∙ slot_busy lane inner rests es i busy))
+            slot_busy advanced done rests' es' i busy' ∙ ap Some (moves i h busy) ∙ sym (ap (option_map f) (slot_here i lt ∙ slot_busy lane inner rests es i busy))
         | inr ge ↦
             let at : r ≡ idle = omega (arith, tied_le r (lane_at 32 turns i) (entry_in es i) (tied.tied i h)) in
-            slot_idle led done rests' es' i (falls i h ∙ ap (lowered m) at) ∙ sym (ap (option_map f) (slot_here i lt ∙ slot_idle lane inner rests es i at))
+            slot_idle advanced done rests' es' i (falls i h ∙ ap (lowered m) at) ∙ sym (ap (option_map f) (slot_here i lt ∙ slot_idle lane inner rests es i at))
       ]

@@ -6,7 +6,7 @@ use Rattle.mbj_types.specs.declared.class.HashName.{HashName}
 use Rattle.mbj_types.specs.Rounds.{hash_rounds, hmac_rounds, states_rounds}
 use Rattle.mbj_types.specs.States.{hash_from}
 use Rattle.mbj_lane.specs.Rounds.{after, end_of}
-use Rattle.mbj_lane.proofs.Led.{after-one_more}
+use Rattle.mbj_lane.proofs.Advanced.{after-one_more}
 use Rattle.mbj_hmac.specs.declared.form.Form.{Form}
 use Rattle.mbj_hmac.specs.declared.form.Form.TheVariants.{Plain, Keyed, States}
 use Rattle.mbj_hmac.specs.Forms.{outer_rounds_of}

@@ -111,12 +111,12 @@ module _ (h : Chaining) where
   turned e = if is_turn e then record e { chain = e.start; inner = e.chain } else e
 
   -- one block further
-  abbrev pub advanced : HmacState → HmacState
-  advanced e = record e { rest = e.rest - 1; chain = h.compress e.chain (block_before e e.rest) }
+  abbrev pub compressed_once : HmacState → HmacState
+  compressed_once e = record e { rest = e.rest - 1; chain = h.compress e.chain (block_before e e.rest) }
 
   -- the next round
   abbrev pub round : HmacState → HmacState
-  round e = advanced (turned e)
+  round e = compressed_once (turned e)
 
   -- an HMAC of which nothing is done, by the key xored with the inner and with the outer pad
   abbrev pub started : HashName → List ℕ → List ℕ → List ℕ → ℕ → ℕ → HmacState

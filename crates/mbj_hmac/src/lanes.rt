@@ -2,7 +2,7 @@
 ghost use Rattle.std.specs.Prelude.{◌≡◌, ℕ, ◌-◌, ◌<◌, ◌≤◌, ◌==◌, length, map, if◌then◌else◌};
 ghost use Rattle.mbj_types.specs.Lanes.{lane_at};
 ghost use Rattle.mbj_lane.specs.Rounds.{after};
-ghost use Rattle.mbj_hmac.specs.Rounds.{advanced, round};
+ghost use Rattle.mbj_hmac.specs.Rounds.{compressed_once, round};
 ghost use Rattle.mbj_hmac.specs.Inside.InLanes.{AreReady, AreTied, IsReady, entry_in, idle, lowered, most_lanes, moved, reach_at, seen_at, turn_of};
 
 use crate::entry::HmacEntry;
@@ -133,9 +133,9 @@ impl<H: LaneHash> HmacLanes<H> {
         requires ready { AreReady H.chaining (H.lane self.old.starts) self.old.rests.bits self.old.rests.left entries.old }
         requires some { 0 < m }
         requires rests { (i : ℕ) → i < most_lanes → lane_at 32 self.old.rests.left i < idle → m ≤ lane_at 32 self.old.rests.left i }
-        ensures led { (i : ℕ) → i < most_lanes → lane_at 32 self.old.rests.left i < idle
+        ensures advanced { (i : ℕ) → i < most_lanes → lane_at 32 self.old.rests.left i < idle
             → seen_at (H.lane self.new.states) (H.lane self.new.inner) entries.new i
-            ≡ after (advanced H.chaining) m (seen_at (H.lane self.old.states) (H.lane self.old.inner) entries.old i) }
+            ≡ after (compressed_once H.chaining) m (seen_at (H.lane self.old.states) (H.lane self.old.inner) entries.old i) }
         ensures tied { AreTied self.new.rests.left self.new.rests.turns entries.new }
         ensures ready { AreReady H.chaining (H.lane self.new.starts) self.new.rests.bits self.new.rests.left entries.new }
         ensures rests { (i : ℕ) → i < most_lanes → lane_at 32 self.new.rests.left i ≡ lowered m (lane_at 32 self.old.rests.left i) }
@@ -164,14 +164,14 @@ impl<H: LaneHash> HmacLanes<H> {
         least(least_lane(reaches(self.rests.left, self.rests.turns)), m)
     }
 
-    /// Leads the entries of all lanes by `m` rounds.
+    /// Advances the entries of all lanes by `m` rounds.
     #[inline(never)]
     pub(crate) fn run(&mut self, entries: &mut [HmacEntry<H>], m: u32)
         requires few { length entries.old ≤ H.LANES }
         requires tied { AreTied self.old.rests.left self.old.rests.turns entries.old }
         requires ready { AreReady H.chaining (H.lane self.old.starts) self.old.rests.bits self.old.rests.left entries.old }
         requires rests { (i : ℕ) → i < most_lanes → lane_at 32 self.old.rests.left i < idle → m ≤ lane_at 32 self.old.rests.left i }
-        ensures led { (i : ℕ) → i < most_lanes → lane_at 32 self.old.rests.left i < idle
+        ensures advanced { (i : ℕ) → i < most_lanes → lane_at 32 self.old.rests.left i < idle
             → seen_at (H.lane self.new.states) (H.lane self.new.inner) entries.new i
             ≡ after (round H.chaining) m (seen_at (H.lane self.old.states) (H.lane self.old.inner) entries.old i) }
         ensures tied { AreTied self.new.rests.left self.new.rests.turns entries.new }

@@ -1,9 +1,9 @@
-// The hash values of all lanes, led through the next blocks of their entries.
+// The hash values of all lanes, advanced by the next blocks of their entries.
 ghost use Rattle.std.specs.Prelude.{◌≡◌, ℕ, ◌-◌, ◌<◌, ◌≤◌};
 ghost use Rattle.mbj_types.specs.Lanes.{lane_at};
 ghost use Rattle.mbj_lane.specs.Rounds.{after};
 ghost use Rattle.mbj_sha_lanes.specs.Halves.{IsWithin};
-ghost use Rattle.mbj_hmac.specs.Rounds.{advanced, block_before};
+ghost use Rattle.mbj_hmac.specs.Rounds.{compressed_once, block_before};
 ghost use Rattle.mbj_hmac.specs.Inside.InLanes.{AreTied, HasDigest, entry_in, idle, most_lanes, never, seen_at};
 
 use crate::entry::HmacEntry;
@@ -14,7 +14,7 @@ use crate::view::LaneEntries;
 use mbj_sha_lanes::Half;
 use std::simd::u32x16;
 
-/// The hash values are led through the block that comes after `done` others of each entry. All busy lanes are in the half that is named. The
+/// The hash values advance by the block that comes after `done` others of each entry. All busy lanes are in the half that is named. The
 /// blocks of inner digests are made here, and nothing is read if each lane has one.
 #[inline(always)]
 fn pass<H: LaneHash>(
@@ -50,7 +50,7 @@ fn pass<H: LaneHash>(
     }
 }
 
-/// The hash values are led through the next `m` blocks of their entries. All busy lanes are in the half that is named.
+/// The hash values advance by the next `m` blocks of their entries. All busy lanes are in the half that is named.
 pub(crate) fn compressed<H: LaneHash>(
     entries: &[HmacEntry<H>],
     m: u32,
@@ -66,7 +66,7 @@ pub(crate) fn compressed<H: LaneHash>(
     requires half { (i : ℕ) → i < H.LANES → lane_at 32 rests.now.left i < idle → IsWithin half i }
     requires rests { (i : ℕ) → i < most_lanes → lane_at 32 rests.now.left i < idle → m ≤ lane_at 32 rests.now.left i }
     ensures { (i : ℕ) → i < H.LANES → lane_at 32 rests.now.left i < idle
-        → H.lane states.new i ≡ (after (advanced H.chaining) m (seen_at (H.lane states.old) (H.lane inner.now) entries.now i)).chain }
+        → H.lane states.new i ≡ (after (compressed_once H.chaining) m (seen_at (H.lane states.old) (H.lane inner.now) entries.now i)).chain }
 {
     'passes: for done in 0..m {
         pass::<H>(entries, done, half, rests, inner, states, schedule);

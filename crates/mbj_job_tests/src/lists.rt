@@ -91,7 +91,7 @@ fn enter_by_turns<C, K: Tried<C>>(
     Ok(())
 }
 
-/// Compares an entry that is finished, or leads the entries on.
+/// Compares an entry that is finished, or advances the entries.
 fn step<C, K: Tried<C>>(rt: &impl Abort, cases: &[C], lanes: &mut Lanes<K>) {
     match lanes.take_finished() {
         Some(entry) => K::check(rt, cases, entry),

@@ -54,8 +54,8 @@ fn cbc_cmac(alloc: Global, dir: Dir, order: Order, packet: u128) -> Result<Job, 
     Ok(job)
 }
 
-/// Leads an entry to its end, alone in its lanes.
-fn led<K: Kernel>(entry: K::Entry) -> K::Entry
+/// Advances an entry to its end, alone in its lanes.
+fn advanced<K: Kernel>(entry: K::Entry) -> K::Entry
     requires { FitsInMemory K.Entry.row }
     ensures end { result ≡ end_of K.round K.rest_of entry }
     ensures done { K.rest_of result ≡ 0 }
@@ -76,7 +76,7 @@ fn do_lane_of<K: JobKernel>(course: &mut Course)
     ensures fewer { length course.new.left < length course.old.left }
 {
     let entry = K::hand_out(course);
-    K::take_back(course, led::<K>(entry));
+    K::take_back(course, advanced::<K>(entry));
 }
 
 /// Does the next stage, which is in lanes.

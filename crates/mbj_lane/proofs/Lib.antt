@@ -1,6 +1,6 @@
 pub mod Halfway
 pub mod Least
-pub mod Led
+pub mod Advanced
 pub mod Listing
 pub mod Standing
 pub mod Taken

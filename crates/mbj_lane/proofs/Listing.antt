@@ -242,31 +242,31 @@ module _ {E : Type 0} (lanes : ℕ) where
     listed-left =
         listed-stay f g (remove order k) (busy-remove f order k before.busy) others-stay ∙ listed-remove f order k before.busy lt
 
-  -- all entries are led on
-  module _ (f g : ℕ → Option E) (h : E → E) (led : (i : ℕ) → i < lanes → g i ≡ option_map h (f i)) where
+  -- all entries are advanced
+  module _ (f g : ℕ → Option E) (h : E → E) (advanced : (i : ℕ) → i < lanes → g i ≡ option_map h (f i)) where
     was-some : (o : Option E) (e : E) → option_map h o ≡ Some e → (x : E) × (o ≡ Some x)
     was-some None e s = absurd (cc)
     was-some (Some x) e s = (x, refl)
 
-    busy-led : (is : List ℕ) → AreBusy f lanes is → AreBusy g lanes is
-    busy-led [] b = tt
-    busy-led (i ∷ is) b = (b.0, (h b.1.0, led i b.0 ∙ ap (option_map h) b.1.1), busy-led is b.2)
+    busy-advanced : (is : List ℕ) → AreBusy f lanes is → AreBusy g lanes is
+    busy-advanced [] b = tt
+    busy-advanced (i ∷ is) b = (b.0, (h b.1.0, advanced i b.0 ∙ ap (option_map h) b.1.1), busy-advanced is b.2)
 
-    idle-led : (is : List ℕ) → AreIdle f lanes is → AreIdle g lanes is
-    idle-led [] b = tt
-    idle-led (i ∷ is) b = (b.0, led i b.0 ∙ ap (option_map h) b.1, idle-led is b.2)
+    idle-advanced : (is : List ℕ) → AreIdle f lanes is → AreIdle g lanes is
+    idle-advanced [] b = tt
+    idle-advanced (i ∷ is) b = (b.0, advanced i b.0 ∙ ap (option_map h) b.1, idle-advanced is b.2)
 
-    pub listed-led : (is : List ℕ) → AreBusy f lanes is → listed g is ≡ map h (listed f is)
-    listed-led [] b = refl
-    listed-led (i ∷ is) b = rw (led i b.0, b.1.1) (ap (λ es. h b.1.0 ∷ es) (listed-led is b.2))
+    pub listed-advanced : (is : List ℕ) → AreBusy f lanes is → listed g is ≡ map h (listed f is)
+    listed-advanced [] b = refl
+    listed-advanced (i ∷ is) b = rw (advanced i b.0, b.1.1) (ap (λ es. h b.1.0 ∷ es) (listed-advanced is b.2))
 
-    pub all-led : (order free : List ℕ) → AreListed lanes f order free → AreListed lanes g order free
-    all-led order free before = record {
-      busy = busy-led order before.busy;
-      idle = idle-led free before.idle;
+    pub all-advanced : (order free : List ℕ) → AreListed lanes f order free → AreListed lanes g order free
+    all-advanced order free before = record {
+      busy = busy-advanced order before.busy;
+      idle = idle-advanced free before.idle;
       apart = before.apart;
       apart_free = before.apart_free;
-      all = λ i l s. before.all i l (was-some (f i) s.0 (sym (led i l) ∙ s.1));
+      all = λ i l s. before.all i l (was-some (f i) s.0 (sym (advanced i l) ∙ s.1));
       count = before.count;
     }
 

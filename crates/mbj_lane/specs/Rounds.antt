@@ -1,4 +1,4 @@
--- Entries that are led by rounds. `rest` says how many rounds an entry has left, and `round` is an entry after its next round.
+-- Entries that advance by rounds. `rest` says how many rounds an entry has left, and `round` is an entry after its next round.
 use Rattle.std.specs.Prelude.{◌≡◌, ℕ, ◌==◌, ◌<◌, ◌≤◌, length, slice_index_or, min, zero, suc, List, [], ◌∷◌, Option, Some, None, if◌then◌else◌}
 use Rattle.std.specs.Option.{option_map}
 

@@ -24,7 +24,7 @@ pub trait Kernel {
     fn rest(entry: &Self::Entry) -> u32
         ensures { result ≡ rest_of entry.now };
 
-    /// Leads each entry by `m` rounds. At most `LANES` entries are given, and each has at least `m` rounds left.
+    /// Advances each entry by `m` rounds. At most `LANES` entries are given, and each has at least `m` rounds left.
     fn run(entries: &mut [Self::Entry], m: u32)
         requires lanes { length entries.old ≤ LANES }
         requires rests { All (λ e. m ≤ rest_of e) entries.old }

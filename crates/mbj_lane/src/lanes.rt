@@ -114,13 +114,13 @@ impl<K: SlotKernel> Lanes<K> {
         self.enter_as(0, entry);
     }
 
-    /// Leads all entries by the least rest among them, in one run of the kernel, and returns that number. The list
+    /// Advances all entries by the least rest among them, in one run of the kernel, and returns that number. The list
     /// isn't empty, and each entry has a round left. The entries keep their order, their places and their ends.
     pub fn run_shortest(&mut self) -> u32
         requires some { 0 < length self.old.entries }
         requires rests { All (λ e. 1 ≤ K.rest_of e) self.old.entries }
         ensures least { result ≡ least K.rest_of self.old.entries }
-        ensures led { self.new.entries ≡ map (after K.round result) self.old.entries }
+        ensures advanced { self.new.entries ≡ map (after K.round result) self.old.entries }
         ensures rests { map K.rest_of self.new.entries ≡ map (λ e. K.rest_of e - result) self.old.entries }
         ensures ends { map (end_of K.round K.rest_of) self.new.entries ≡ map (end_of K.round K.rest_of) self.old.entries }
         ensures places { self.new.places ≡ self.old.places }

@@ -1,4 +1,4 @@
-//! Lanes: pieces of work of one kind that wait for each other, and are then led on together, round by round.
+//! Lanes: pieces of work of one kind that wait for each other, and then advance together, round by round.
 #![tactic(auto)]
 
 mod host;

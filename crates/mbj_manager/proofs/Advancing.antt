@@ -21,7 +21,7 @@ use Rattle.mbj_manager.specs.Cells.{Cell, job_in, IsOpen}
 use Rattle.mbj_manager.specs.Inside.Courses.{Follows, IsSameRing, asked, courses, number, ring_number}
 use Rattle.mbj_manager.specs.Inside.Leaving.{At, Gives, IsAbsent, finishers, numbers, others, returned}
 use Rattle.mbj_stage.specs.Handing.{End, IsNext, handed_out, taken_back}
-use Rattle.mbj_manager.specs.Inside.QueueView.{QueueView, Enters, MayEnter, queue_view, joined_by, led_all, ran_at, ran_if_full}
+use Rattle.mbj_manager.specs.Inside.QueueView.{QueueView, Enters, MayEnter, queue_view, joined_by, advanced_all, ran_at, ran_if_full}
 use Rattle.mbj_manager.specs.Inside.LaneQueues.{queue_view_of, placed_in, with_placed}
 use Rattle.mbj_manager.specs.declared.lane_queues.LaneQueues.{LaneQueues}
 use Rattle.mbj_manager.specs.Inside.PlacedQueue.{EntryView, HasRest, PlacedQueue, PlacedEntry, brings_in, placed_queue, numbered_queue, rounds_in}
@@ -126,13 +126,13 @@ module _ {X : Type 0} (f : CourseState → X) (k : Kind) (n : ℕ) (a : EntryVie
       (at-each (Gives k a.rounds a.brings) (Tells f a.brings) n cs tells gives)
 
   abbrev end_courses : List PlacedEntry → List CourseState
-  end_courses ws = returned brings_in join.courses (finishers rounds_in (led_all ws))
+  end_courses ws = returned brings_in join.courses (finishers rounds_in (advanced_all ws))
 
   abbrev end_agenda : List PlacedEntry → List ℕ
-  end_agenda ws = ag ++ numbers (finishers rounds_in (led_all ws))
+  end_agenda ws = ag ++ numbers (finishers rounds_in (advanced_all ws))
 
   abbrev end_line : List PlacedEntry → PlacedQueue
-  end_line ws = placed_queue (others rounds_in (led_all ws)) 0 0
+  end_line ws = placed_queue (others rounds_in (advanced_all ws)) 0 0
 
   own : (grown k).queued ≡ join.queued
   own = ap (λ (x : PlacedQueue). x.queued) (put-self k (placed_queue join.queued 0 0) lines)

@@ -7,7 +7,7 @@ use Rattle.mbj_lane.specs.Rounds.{taken}
 use Rattle.mbj_types.specs.declared.kind.Kind.{Kind}
 use Rattle.mbj_stage.specs.CourseState.{CourseState}
 use Rattle.mbj_stage.specs.Handing.{End, IsOut, taken_back}
-use Rattle.mbj_manager.specs.Inside.PlacedQueue.{PlacedEntry, ended, led_entry, numbered, pair_rest, rounds_in}
+use Rattle.mbj_manager.specs.Inside.PlacedQueue.{PlacedEntry, ended, advanced_entry, numbered, pair_rest, rounds_in}
 use Rattle.mbj_manager.specs.Inside.Leaving.{At, finishers, others, numbers, IsAbsent}
 use Rattle.mbj_manager.specs.Inside.QueueView.{Listed, queue_view, left_now}
 use Rattle.mbj_manager.specs.Machine.Queues.{changed}
@@ -24,14 +24,14 @@ pub listed-changed : (k : Kind) (f : CourseState → CourseState) (m : ℕ) (cs 
 listed-changed k f m cs [] a r = tt
 listed-changed k f m cs (w ∷ ws) a r = (at-changed _ f w.0 m cs a.0 r.0, r.1, listed-changed k f m cs ws a.1 r.2)
 
-absent-led : (m n : ℕ) (ws : List PlacedEntry) → IsAbsent n ws → IsAbsent n (map (led_entry m) ws)
-absent-led m n [] a = tt
-absent-led m n (w ∷ ws) a = (a.0, absent-led m n ws a.1)
+absent-advanced : (m n : ℕ) (ws : List PlacedEntry) → IsAbsent n ws → IsAbsent n (map (advanced_entry m) ws)
+absent-advanced m n [] a = tt
+absent-advanced m n (w ∷ ws) a = (a.0, absent-advanced m n ws a.1)
 
 -- a run keeps the ends
-pub listed-led : (k : Kind) (cs : List CourseState) (m : ℕ) (ws : List PlacedEntry) → Listed k cs ws → Listed k cs (map (led_entry m) ws)
-listed-led k cs m [] r = tt
-listed-led k cs m (w ∷ ws) r = (r.0, absent-led m w.0 ws r.1, listed-led k cs m ws r.2)
+pub listed-advanced : (k : Kind) (cs : List CourseState) (m : ℕ) (ws : List PlacedEntry) → Listed k cs ws → Listed k cs (map (advanced_entry m) ws)
+listed-advanced k cs m [] r = tt
+listed-advanced k cs m (w ∷ ws) r = (r.0, absent-advanced m w.0 ws r.1, listed-advanced k cs m ws r.2)
 
 -- what `taken` tells of the finishers and the others
 pub record Took (k : Kind) (cs : List CourseState) (ws : List PlacedEntry) (w : PlacedEntry) (vs : List PlacedEntry) : Type 0 where

@@ -11,11 +11,11 @@ use Rattle.mbj_manager.specs.Machine.Queues.{changed, count_end}
 use Rattle.mbj_manager.specs.declared.lane.Cause.{Cause}
 use Rattle.mbj_manager.specs.declared.lane.Cause.TheVariants as cause
 use Rattle.mbj_manager.specs.Inside.Leaving.{At, Gives, IsAbsent}
-use Rattle.mbj_manager.specs.Inside.QueueView.{QueueView, IsReady, Listed, MayEnter, queue_view, queue_view_at, joined_by, led_all, left_by, left_now, ran_at, ran_if_full}
-use Rattle.mbj_manager.specs.Inside.PlacedQueue.{EntryView, HasRest, PlacedQueue, PlacedEntry, led_queue, led_entry, numbered, pair_rest, rounds_in, with_queued}
+use Rattle.mbj_manager.specs.Inside.QueueView.{QueueView, IsReady, Listed, MayEnter, queue_view, queue_view_at, joined_by, advanced_all, left_by, left_now, ran_at, ran_if_full}
+use Rattle.mbj_manager.specs.Inside.PlacedQueue.{EntryView, HasRest, PlacedQueue, PlacedEntry, advanced_queue, advanced_entry, numbered, pair_rest, rounds_in, with_queued}
 use Rattle.mbj_manager.specs.Inside.Held.{IsHere}
 use Rattle.mbj_manager.proofs.Finishing.{listed-changed}
-use Rattle.mbj_manager.proofs.Numbering.{numbered-least, numbered-led}
+use Rattle.mbj_manager.proofs.Numbering.{numbered-least, numbered-advanced}
 use Rattle.mbj_manager.proofs.Joining.{at-here, at-made, here-not-out}
 
 -- a job whose packet is here is in no lane queue
@@ -67,20 +67,20 @@ joined-queue_view f cs cs' agenda l l' p a runs out join =
     rw (out, join) (ap (λ (ws : List PlacedEntry). queue_view (changed handed_out (f p) cs) (map f agenda) ws l.rounds l.blocks runs)
     (map-append (λ (w : PlacedEntry). (f w.0, w.1)) l.queued ((p, a) ∷ [])))
 
--- those leave whose rounds are done, once all were led by the least rest
-pub led-queue_view : (f : ℕ → ℕ) (cs : List CourseState) (agenda : List ℕ) (l l' : PlacedQueue) (m runs : ℕ) → l' ≡ led_queue m l → m ≡ least (pair_rest rounds_in) l.queued
-    → left_now (queue_view_at f cs agenda l' 0) ≡ record (left_by (led_all (numbered f l.queued)) (queue_view_at f cs agenda l runs)) { flush_runs = 0 }
-led-queue_view f cs agenda l l' m runs led is =
-    let ws : numbered f (map (led_entry m) l.queued) ≡ led_all (numbered f l.queued)
-    = numbered-led f m l.queued ∙ ap (λ (n : ℕ). map (led_entry n) (numbered f l.queued)) (is ∙ sym (numbered-least f l.queued)) in
-    rw (led, ws) refl
+-- those leave whose rounds are done, once all were advanced by the least rest
+pub advanced-queue_view : (f : ℕ → ℕ) (cs : List CourseState) (agenda : List ℕ) (l l' : PlacedQueue) (m runs : ℕ) → l' ≡ advanced_queue m l → m ≡ least (pair_rest rounds_in) l.queued
+    → left_now (queue_view_at f cs agenda l' 0) ≡ record (left_by (advanced_all (numbered f l.queued)) (queue_view_at f cs agenda l runs)) { flush_runs = 0 }
+advanced-queue_view f cs agenda l l' m runs advanced is =
+    let ws : numbered f (map (advanced_entry m) l.queued) ≡ advanced_all (numbered f l.queued)
+    = numbered-advanced f m l.queued ∙ ap (λ (n : ℕ). map (advanced_entry n) (numbered f l.queued)) (is ∙ sym (numbered-least f l.queued)) in
+    rw (advanced, ws) refl
 
 -- the run within a submit, and the one within a flush
-pub counted-run : (d e : QueueView) (m lanes : ℕ) → e ≡ record (left_by (led_all d.queued) d) { flush_runs = 0 } → m ≡ least (pair_rest rounds_in) d.queued
+pub counted-run : (d e : QueueView) (m lanes : ℕ) → e ≡ record (left_by (advanced_all d.queued) d) { flush_runs = 0 } → m ≡ least (pair_rest rounds_in) d.queued
     → lanes ≡ length d.queued
     → record e { rounds = (e.rounds + m) % count_end; blocks = (e.blocks + m * lanes) % count_end; flush_runs = d.flush_runs } ≡ ran_at cause.Submit d
 counted-run d e m lanes is least-is lanes-are = rw (is, least-is, lanes-are) refl
 
-pub flushed-run : (d e : QueueView) → e ≡ record (left_by (led_all d.queued) d) { flush_runs = 0 }
+pub flushed-run : (d e : QueueView) → e ≡ record (left_by (advanced_all d.queued) d) { flush_runs = 0 }
     → record e { flush_runs = (d.flush_runs + 1) % count_end } ≡ ran_at cause.Flush d
 flushed-run d e is = rw is refl

@@ -17,10 +17,10 @@ use Rattle.mbj_manager.specs.Cells.{Cell, job_in, IsOpen}
 use Rattle.mbj_manager.specs.Inside.Added.{first_lane}
 use Rattle.mbj_manager.specs.Inside.Courses.{IsSameRing, asked, courses, number, ring_number}
 use Rattle.mbj_manager.specs.Inside.Leaving.{finishers, numbers, others}
-use Rattle.mbj_manager.specs.Inside.QueueView.{QueueView, IsReady, queue_view, led_all, ran_at}
+use Rattle.mbj_manager.specs.Inside.QueueView.{QueueView, IsReady, queue_view, advanced_all, ran_at}
 use Rattle.mbj_manager.specs.Inside.LaneQueues.{queue_view_of, placed_in, total, with_placed}
 use Rattle.mbj_manager.specs.declared.lane_queues.LaneQueues.{LaneQueues}
-use Rattle.mbj_manager.specs.Inside.PlacedQueue.{HasRest, PlacedQueue, PlacedEntry, led_entry, placed_queue, numbered, numbered_queue, pair_rest, rounds_in}
+use Rattle.mbj_manager.specs.Inside.PlacedQueue.{HasRest, PlacedQueue, PlacedEntry, advanced_entry, placed_queue, numbered, numbered_queue, pair_rest, rounds_in}
 use Rattle.mbj_manager.specs.Inside.Standing.{IsInCourse, left_at}
 use Rattle.mbj_manager.specs.Inside.Held.{IsHeld, IsTied, find_in, found, held, lane_seen, lines_in, machine_by, machine_in, restored_from, waiting}
 use Rattle.mbj_lane.specs.Rounds.{least}
@@ -116,9 +116,9 @@ finish-length (w ∷ ws) = elim (zero-or w.1.rounds) [
 
 pub ran-length : (at : Cause) (d : QueueView) → length (ran_at at d).agenda + length (ran_at at d).queued ≡ length d.agenda + length d.queued
 ran-length cause.Submit d =
-    omega (arith, length-append d.agenda (numbers (finishers rounds_in (led_all d.queued))), finish-length (led_all d.queued), length-map d.queued (led_entry (least (pair_rest rounds_in) d.queued)))
+    omega (arith, length-append d.agenda (numbers (finishers rounds_in (advanced_all d.queued))), finish-length (advanced_all d.queued), length-map d.queued (advanced_entry (least (pair_rest rounds_in) d.queued)))
 ran-length cause.Flush d =
-    omega (arith, length-append d.agenda (numbers (finishers rounds_in (led_all d.queued))), finish-length (led_all d.queued), length-map d.queued (led_entry (least (pair_rest rounds_in) d.queued)))
+    omega (arith, length-append d.agenda (numbers (finishers rounds_in (advanced_all d.queued))), finish-length (advanced_all d.queued), length-map d.queued (advanced_entry (least (pair_rest rounds_in) d.queued)))
 
 -- ---- the lane queue of the earliest job
 

@@ -3,16 +3,16 @@ use Rattle.std.proofs.Common.{◌≡◌, ℕ, min, zero, suc, List, [], ◌∷�
 use Rattle.std.specs.Prelude.{All}
 use Rattle.std.specs.Option.{option_map}
 use Rattle.mbj_lane.specs.Rounds.{least, least_from, taken}
-use Rattle.mbj_manager.specs.Inside.PlacedQueue.{HasRest, PlacedEntry, led_entry, numbered, pair_rest, rounds_in}
+use Rattle.mbj_manager.specs.Inside.PlacedQueue.{HasRest, PlacedEntry, advanced_entry, numbered, pair_rest, rounds_in}
 
 module _ (f : ℕ → ℕ) where
   pub numbered-length : (ws : List PlacedEntry) → length (numbered f ws) ≡ length ws
   numbered-length [] = refl
   numbered-length (w ∷ ws) = ap suc (numbered-length ws)
 
-  pub numbered-led : (m : ℕ) (ws : List PlacedEntry) → numbered f (map (led_entry m) ws) ≡ map (led_entry m) (numbered f ws)
-  numbered-led m [] = refl
-  numbered-led m (w ∷ ws) = ap (λ (r : List PlacedEntry). led_entry m (f w.0, w.1) ∷ r) (numbered-led m ws)
+  pub numbered-advanced : (m : ℕ) (ws : List PlacedEntry) → numbered f (map (advanced_entry m) ws) ≡ map (advanced_entry m) (numbered f ws)
+  numbered-advanced m [] = refl
+  numbered-advanced m (w ∷ ws) = ap (λ (r : List PlacedEntry). advanced_entry m (f w.0, w.1) ∷ r) (numbered-advanced m ws)
 
   least_from-numbered : (n : ℕ) (ws : List PlacedEntry) → least_from (pair_rest rounds_in) n (numbered f ws) ≡ least_from (pair_rest rounds_in) n ws
   least_from-numbered n [] = refl

@@ -6,7 +6,7 @@ use Rattle.std.proofs.lemmas.Bool.{ne_eqb}
 use Rattle.mbj_lane.specs.Rounds.{IsFirst, after, end_of, least, least_from, taken}
 use Rattle.mbj_lane.specs.Laws.{end-after, rest-after}
 use Rattle.mbj_stage.specs.Handing.{End}
-use Rattle.mbj_manager.specs.Inside.PlacedQueue.{HasRest, PlacedEntry, entry_view, ended, led_entry, pair_rest, rounds_in, queued_of}
+use Rattle.mbj_manager.specs.Inside.PlacedQueue.{HasRest, PlacedEntry, entry_view, ended, advanced_entry, pair_rest, rounds_in, queued_of}
 
 module _ {E : Type 0} (round : E → E) (rest : E → ℕ) (brings : E → End) where
   abbrev see : List ℕ → List E → List PlacedEntry
@@ -58,14 +58,14 @@ module _ {E : Type 0} (round : E → E) (rest : E → ℕ) (brings : E → End) 
   queued_of-some (p ∷ ps) (e ∷ es) h a zero d l = a 0 (p, entry_view round rest brings e) (omega arith)
   queued_of-some (p ∷ ps) (e ∷ es) h a (suc k) d l = queued_of-some ps es (omega arith) (λ i x lt. a (suc i) x (omega arith)) k d (omega arith)
 
-  pub queued_of-led : (m : ℕ) (ps : List ℕ) (es : List E) → ((e : E) → rest (round e) ≡ rest e - 1)
-      → ((k : ℕ) (d : E) → k < length es → m ≤ rest (get_or es k d)) → see ps (map (after round m) es) ≡ map (led_entry m) (see ps es)
-  queued_of-led m [] es falls h = refl
-  queued_of-led m (p ∷ ps) [] falls h = refl
-  queued_of-led m (p ∷ ps) (e ∷ es) falls h =
+  pub queued_of-advanced : (m : ℕ) (ps : List ℕ) (es : List E) → ((e : E) → rest (round e) ≡ rest e - 1)
+      → ((k : ℕ) (d : E) → k < length es → m ≤ rest (get_or es k d)) → see ps (map (after round m) es) ≡ map (advanced_entry m) (see ps es)
+  queued_of-advanced m [] es falls h = refl
+  queued_of-advanced m (p ∷ ps) [] falls h = refl
+  queued_of-advanced m (p ∷ ps) (e ∷ es) falls h =
       let a : rest (after round m e) ≡ rest e - m = rest-after round rest falls m e in
       let b : end_of round rest (after round m e) ≡ end_of round rest e = end-after round rest falls m e (h 0 e (omega arith)) in
-      let i : see ps (map (after round m) es) ≡ map (led_entry m) (see ps es) = queued_of-led m ps es falls (λ k d l. h (suc k) d (omega arith)) in
+      let i : see ps (map (after round m) es) ≡ map (advanced_entry m) (see ps es) = queued_of-advanced m ps es falls (λ k d l. h (suc k) d (omega arith)) in
       let made : ℕ → End → PlacedEntry = λ r x. (p, record { rounds = r; brings = x }) in
       ap (λ (r : ℕ). made r (brings (end_of round rest (after round m e))) ∷ see ps (map (after round m) es)) a
       ∙ ap (λ (x : E). made (rest e - m) (brings x) ∷ see ps (map (after round m) es)) b

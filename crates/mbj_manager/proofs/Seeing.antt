@@ -13,8 +13,8 @@ use Rattle.mbj_manager.specs.declared.lane.Cause.{Cause}
 use Rattle.mbj_manager.specs.declared.lane.Cause.TheVariants as cause
 use Rattle.mbj_manager.specs.Machine.Course.{joined, run_if_full}
 use Rattle.mbj_manager.specs.Inside.Leaving.{finishers, numbers, others, returned}
-use Rattle.mbj_manager.specs.Inside.QueueView.{QueueView, joined_by, led_all, ran_at, ran_if_full}
-use Rattle.mbj_manager.specs.Inside.PlacedQueue.{EntryView, PlacedQueue, PlacedEntry, brings_in, led_entry, placed_queue, pair_rest, rounds_in}
+use Rattle.mbj_manager.specs.Inside.QueueView.{QueueView, joined_by, advanced_all, ran_at, ran_if_full}
+use Rattle.mbj_manager.specs.Inside.PlacedQueue.{EntryView, PlacedQueue, PlacedEntry, brings_in, advanced_entry, placed_queue, pair_rest, rounds_in}
 use Rattle.mbj_manager.specs.Inside.Held.{lane_seen, machine_by, waiting}
 use Rattle.mbj_manager.proofs.Changing.{map-unchanged}
 use Rattle.mbj_manager.proofs.Lanes.{given-lane, other-lane, with_waiting, waits, again}
@@ -34,13 +34,13 @@ pub least-seen : (ws : List PlacedEntry) → least (map waiting ws) ≡ least_of
 least-seen [] = refl
 least-seen (w ∷ ws) = least_from-seen w.1.rounds ws
 
-led-seen : (m : ℕ) (ws : List PlacedEntry) → map (lowered m) (map waiting ws) ≡ map waiting (map (led_entry m) ws)
-led-seen m [] = refl
-led-seen m (w ∷ ws) = ap (λ (r : List WaitingJob). lowered m (waiting w) ∷ r) (led-seen m ws)
+advanced-seen : (m : ℕ) (ws : List PlacedEntry) → map (lowered m) (map waiting ws) ≡ map waiting (map (advanced_entry m) ws)
+advanced-seen m [] = refl
+advanced-seen m (w ∷ ws) = ap (λ (r : List WaitingJob). lowered m (waiting w) ∷ r) (advanced-seen m ws)
 
-shortened-seen : (ws : List PlacedEntry) → shortened (map waiting ws) ≡ map waiting (led_all ws)
+shortened-seen : (ws : List PlacedEntry) → shortened (map waiting ws) ≡ map waiting (advanced_all ws)
 shortened-seen ws =
-    ap (λ (m : ℕ). map (lowered m) (map waiting ws)) (least-seen ws) ∙ led-seen (least_of (pair_rest rounds_in) ws) ws
+    ap (λ (m : ℕ). map (lowered m) (map waiting ws)) (least-seen ws) ∙ advanced-seen (least_of (pair_rest rounds_in) ws) ws
 
 others-seen : (ws : List PlacedEntry) → stayers (map waiting ws) ≡ map waiting (others rounds_in ws)
 others-seen [] = refl
@@ -56,11 +56,11 @@ leavers-seen (w ∷ ws) = elim (zero-or w.1.rounds) [
   | inr z ↦ rw z (leavers-seen ws)
 ]
 
-pub gone-seen : (ws : List PlacedEntry) → leavers (shortened (map waiting ws)) ≡ numbers (finishers rounds_in (led_all ws))
-gone-seen ws = ap leavers (shortened-seen ws) ∙ leavers-seen (led_all ws)
+pub gone-seen : (ws : List PlacedEntry) → leavers (shortened (map waiting ws)) ≡ numbers (finishers rounds_in (advanced_all ws))
+gone-seen ws = ap leavers (shortened-seen ws) ∙ leavers-seen (advanced_all ws)
 
-pub stay-seen : (ws : List PlacedEntry) → stayers (shortened (map waiting ws)) ≡ map waiting (others rounds_in (led_all ws))
-stay-seen ws = ap stayers (shortened-seen ws) ∙ others-seen (led_all ws)
+pub stay-seen : (ws : List PlacedEntry) → stayers (shortened (map waiting ws)) ≡ map waiting (others rounds_in (advanced_all ws))
+stay-seen ws = ap stayers (shortened-seen ws) ∙ others-seen (advanced_all ws)
 
 -- ---- the stages that are left
 
@@ -96,16 +96,16 @@ same-machine a b c d e f n x y z = rw (x, y, z) refl
 
 -- a run, whatever it counts
 ran-seen-by : (k : Kind) (lanes : Kind → Queue) (d e : QueueView) (after : List WaitingJob → Queue) (m : Machine) → m.left ≡ map pending d.courses → m.agenda ≡ d.agenda
-    → m.lanes ≡ with_queue k (lane_at d) lanes → e.courses ≡ returned brings_in d.courses (finishers rounds_in (led_all d.queued))
-    → e.agenda ≡ d.agenda ++ numbers (finishers rounds_in (led_all d.queued))
-    → lane_at e ≡ after (map waiting (others rounds_in (led_all d.queued))) → e.flush_runs ≡ m.flush_runs
+    → m.lanes ≡ with_queue k (lane_at d) lanes → e.courses ≡ returned brings_in d.courses (finishers rounds_in (advanced_all d.queued))
+    → e.agenda ≡ d.agenda ++ numbers (finishers rounds_in (advanced_all d.queued))
+    → lane_at e ≡ after (map waiting (others rounds_in (advanced_all d.queued))) → e.flush_runs ≡ m.flush_runs
     → machine_at k lanes e ≡ after_run k after m
 ran-seen-by k lanes d e after m left agenda lanes-are cs ag lane runs =
     let ws : (queue_for k m).waiting ≡ map waiting d.queued = ap (λ (x : Kind → Queue). (x k).waiting) lanes-are ∙ ap (λ (l : Queue). l.waiting) (given-lane k (lane_at d) lanes) in
-    let gone : leavers (shortened (queue_for k m).waiting) ≡ numbers (finishers rounds_in (led_all d.queued)) = ap (λ x. leavers (shortened x)) ws ∙ gone-seen d.queued in
-    let stay : stayers (shortened (queue_for k m).waiting) ≡ map waiting (others rounds_in (led_all d.queued)) = ap (λ x. stayers (shortened x)) ws ∙ stay-seen d.queued in
+    let gone : leavers (shortened (queue_for k m).waiting) ≡ numbers (finishers rounds_in (advanced_all d.queued)) = ap (λ x. leavers (shortened x)) ws ∙ gone-seen d.queued in
+    let stay : stayers (shortened (queue_for k m).waiting) ≡ map waiting (others rounds_in (advanced_all d.queued)) = ap (λ x. stayers (shortened x)) ws ∙ stay-seen d.queued in
     let l : map pending e.courses ≡ stage_done (leavers (shortened (queue_for k m).waiting)) m.left
-    = ap (map pending) cs ∙ returned-seen d.courses (finishers rounds_in (led_all d.queued)) ∙ ap₂ (λ x y. stage_done x y) (sym gone) (sym left) in
+    = ap (map pending) cs ∙ returned-seen d.courses (finishers rounds_in (advanced_all d.queued)) ∙ ap₂ (λ x y. stage_done x y) (sym gone) (sym left) in
     let n : with_queue k (lane_at e) lanes ≡ with_queue k (after (stayers (shortened (queue_for k m).waiting))) m.lanes
     = ap (λ x. with_queue k x lanes) (lane ∙ ap after (sym stay)) ∙ sym (again k (after (stayers (shortened (queue_for k m).waiting))) (lane_at d) lanes)
     ∙ ap (with_queue k (after (stayers (shortened (queue_for k m).waiting)))) (sym lanes-are) in
@@ -116,7 +116,7 @@ pub run-seen : (at : Cause) (k : Kind) (lanes : Kind → Queue) (d : QueueView) 
 run-seen cause.Submit k lanes d =
     let m = machine_at k lanes d in
     let own = own-lane k lanes d in
-    let lane : lane_at (ran_at cause.Submit d) ≡ with_run (queue_for k m) (map waiting (others rounds_in (led_all d.queued)))
+    let lane : lane_at (ran_at cause.Submit d) ≡ with_run (queue_for k m) (map waiting (others rounds_in (advanced_all d.queued)))
     = rw own (let a = least-seen d.queued in let b = length-map d.queued waiting in rw (a, b) refl) in
     ran-seen-by k lanes d (ran_at cause.Submit d) (with_run (queue_for k m)) m refl refl refl refl refl lane refl
 run-seen cause.Flush k lanes d =

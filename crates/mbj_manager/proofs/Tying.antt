@@ -11,8 +11,8 @@ use Rattle.mbj_stage.specs.Handing.{End, IsNext, IsOut, handed_out, taken_back}
 use Rattle.mbj_manager.specs.Machine.Queues.{changed, put}
 use Rattle.mbj_manager.specs.Inside.Courses.{Follows}
 use Rattle.mbj_manager.specs.Inside.Leaving.{At, Gives, IsAbsent, finishers, numbers, others, returned}
-use Rattle.mbj_manager.specs.Inside.QueueView.{Listed, led_all}
-use Rattle.mbj_manager.specs.Inside.PlacedQueue.{PlacedQueue, PlacedEntry, brings_in, led_entry, placed_queue, pair_rest, rounds_in}
+use Rattle.mbj_manager.specs.Inside.QueueView.{Listed, advanced_all}
+use Rattle.mbj_manager.specs.Inside.PlacedQueue.{PlacedQueue, PlacedEntry, brings_in, advanced_entry, placed_queue, pair_rest, rounds_in}
 use Rattle.mbj_manager.specs.Inside.Held.{IsHere, IsTied, find_in, found, restored_from}
 use Rattle.mbj_manager.proofs.Changing.{length-changed}
 use Rattle.mbj_manager.proofs.Finishing.{at-changed, listed-changed, zero-or}
@@ -272,34 +272,34 @@ leaves k cs agenda lines front (w ∷ ws) l y = elim (zero-or w.1.rounds) [
 
 -- ---- a run lowers the rests alone
 
-led-absent : (m n : ℕ) (ws : List PlacedEntry) → IsAbsent n ws → IsAbsent n (map (led_entry m) ws)
-led-absent m n [] a = tt
-led-absent m n (w ∷ ws) a = (a.0, led-absent m n ws a.1)
+advanced-absent : (m n : ℕ) (ws : List PlacedEntry) → IsAbsent n ws → IsAbsent n (map (advanced_entry m) ws)
+advanced-absent m n [] a = tt
+advanced-absent m n (w ∷ ws) a = (a.0, advanced-absent m n ws a.1)
 
-absent-led : (m n : ℕ) (ws : List PlacedEntry) → IsAbsent n (map (led_entry m) ws) → IsAbsent n ws
-absent-led m n [] a = tt
-absent-led m n (w ∷ ws) a = (a.0, absent-led m n ws a.1)
+absent-advanced : (m n : ℕ) (ws : List PlacedEntry) → IsAbsent n (map (advanced_entry m) ws) → IsAbsent n ws
+absent-advanced m n [] a = tt
+absent-advanced m n (w ∷ ws) a = (a.0, absent-advanced m n ws a.1)
 
-led-listed : (k : Kind) (cs : List CourseState) (m : ℕ) (ws : List PlacedEntry) → Listed k cs ws → Listed k cs (map (led_entry m) ws)
-led-listed k cs m [] r = tt
-led-listed k cs m (w ∷ ws) r = (r.0, led-absent m w.0 ws r.1, led-listed k cs m ws r.2)
+advanced-listed : (k : Kind) (cs : List CourseState) (m : ℕ) (ws : List PlacedEntry) → Listed k cs ws → Listed k cs (map (advanced_entry m) ws)
+advanced-listed k cs m [] r = tt
+advanced-listed k cs m (w ∷ ws) r = (r.0, advanced-absent m w.0 ws r.1, advanced-listed k cs m ws r.2)
 
-led-found : (n m : ℕ) (ws : List PlacedEntry) → found n ws ≡ found n (map (led_entry m) ws)
-led-found n m [] = refl
-led-found n m (w ∷ ws) = ap (λ (r : Option End). cond (eqb n w.0) (Some w.1.brings) r) (led-found n m ws)
+advanced-found : (n m : ℕ) (ws : List PlacedEntry) → found n ws ≡ found n (map (advanced_entry m) ws)
+advanced-found n m [] = refl
+advanced-found n m (w ∷ ws) = ap (λ (r : Option End). cond (eqb n w.0) (Some w.1.brings) r) (advanced-found n m ws)
 
-tied-led : (k : Kind) (m : ℕ) (cs : List CourseState) (agenda : List ℕ) (lines : Kind → PlacedQueue) → IsTied cs agenda lines
-    → IsTied cs agenda (put k (placed_queue (map (led_entry m) (lines k).queued) 0 0) lines)
-tied-led k m cs agenda lines y =
-    let l = placed_queue (map (led_entry m) (lines k).queued) 0 0 in
+tied-advanced : (k : Kind) (m : ℕ) (cs : List CourseState) (agenda : List ℕ) (lines : Kind → PlacedQueue) → IsTied cs agenda lines
+    → IsTied cs agenda (put k (placed_queue (map (advanced_entry m) (lines k).queued) 0 0) lines)
+tied-advanced k m cs agenda lines y =
+    let l = placed_queue (map (advanced_entry m) (lines k).queued) 0 0 in
     record {
       listed = λ j. elim (put-case k j l lines) [
-        | inl e ↦ rw (e.1, e.0) (led-listed k cs m (lines k).queued (y.listed k))
+        | inl e ↦ rw (e.1, e.0) (advanced-listed k cs m (lines k).queued (y.listed k))
         | inr e ↦ rw e.1 (y.listed j)
       ];
       here = λ n lt a. y.here n lt (λ j. elim (put-case k j l lines) [
         | inl e ↦ subst (λ i. IsAbsent n (lines i).queued) (sym e.0)
-            (absent-led m n (lines k).queued (subst (λ (x : PlacedQueue). IsAbsent n x.queued) (put-self k l lines) (a k)))
+            (absent-advanced m n (lines k).queued (subst (λ (x : PlacedQueue). IsAbsent n x.queued) (put-self k l lines) (a k)))
         | inr e ↦ subst (λ (x : PlacedQueue). IsAbsent n x.queued) e.1 (a j)
       ]);
       below = y.below;
@@ -307,24 +307,24 @@ tied-led k m cs agenda lines y =
 
 -- the lane queue of a kind runs
 pub record Ran (k : Kind) (cs : List CourseState) (agenda : List ℕ) (lines : Kind → PlacedQueue) : Type 0 where
-  pub tied : IsTied (returned brings_in cs (finishers rounds_in (led_all (lines k).queued))) (agenda ++ numbers (finishers rounds_in (led_all (lines k).queued)))
-      (put k (placed_queue (others rounds_in (led_all (lines k).queued)) 0 0) lines)
+  pub tied : IsTied (returned brings_in cs (finishers rounds_in (advanced_all (lines k).queued))) (agenda ++ numbers (finishers rounds_in (advanced_all (lines k).queued)))
+      (put k (placed_queue (others rounds_in (advanced_all (lines k).queued)) 0 0) lines)
   pub restored : restored_from 0 (find_in lines) cs
-      ≡ restored_from 0 (find_in (put k (placed_queue (others rounds_in (led_all (lines k).queued)) 0 0) lines))
-      (returned brings_in cs (finishers rounds_in (led_all (lines k).queued)))
+      ≡ restored_from 0 (find_in (put k (placed_queue (others rounds_in (advanced_all (lines k).queued)) 0 0) lines))
+      (returned brings_in cs (finishers rounds_in (advanced_all (lines k).queued)))
 
 pub ran-list : (k : Kind) (cs : List CourseState) (agenda : List ℕ) (lines : Kind → PlacedQueue) → IsTied cs agenda lines → Ran k cs agenda lines
 ran-list k cs agenda lines y =
     let m = least (pair_rest rounds_in) (lines k).queued in
-    let ws = led_all (lines k).queued in
+    let ws = advanced_all (lines k).queued in
     let l = placed_queue ws 0 0 in
     let end = placed_queue (others rounds_in ws) 0 0 in
     let lines' = put k l lines in
-    let i = leaves k cs agenda lines' [] ws (ap (λ (x : PlacedQueue). x.queued) (put-self k l lines)) (tied-led k m cs agenda lines y) in
+    let i = leaves k cs agenda lines' [] ws (ap (λ (x : PlacedQueue). x.queued) (put-self k l lines)) (tied-advanced k m cs agenda lines y) in
     let same = put-twice k end l lines in
     let cs2 = returned brings_in cs (finishers rounds_in ws) in
     record {
       tied = tied-same cs2 _ (put k end lines') (put k end lines) same i.tied;
-      restored = restored-same 0 (find_in lines) (find_in lines') cs (λ j n h. find-put-other k j n l lines (led-found n m (lines k).queued))
+      restored = restored-same 0 (find_in lines) (find_in lines') cs (λ j n h. find-put-other k j n l lines (advanced-found n m (lines k).queued))
           ∙ i.restored ∙ restored-same 0 (find_in (put k end lines')) (find_in (put k end lines)) cs2 (λ j n h. ap (found n) (same j));
     }

@@ -63,14 +63,14 @@ range-restored n find c = here-back c.out c (restored_by (stage_of c) n find c) 
 
 -- ---- the result
 
-led-status : (reason : Option Reason) (left : List Step) (j : Job) (tag : List ℕ) → (led_to reason left j tag).status ≡ status_of reason
-led-status reason [] j tag = refl
-led-status reason (s ∷ left) j tag =
-    led-status reason left (record j { packet = packet_after s j j.packet }) (tag_after s j j.packet tag)
+advanced-status : (reason : Option Reason) (left : List Step) (j : Job) (tag : List ℕ) → (led_to reason left j tag).status ≡ status_of reason
+advanced-status reason [] j tag = refl
+advanced-status reason (s ∷ left) j tag =
+    advanced-status reason left (record j { packet = packet_after s j j.packet }) (tag_after s j j.packet tag)
 
 owed-status : (c : CourseState) → (owed c).status ≡ status_of c.reason
 unfolding owed
-owed-status c = led-status c.reason c.left c.job c.tag
+owed-status c = advanced-status c.reason c.left c.job c.tag
 
 by-reason : (reason : Option Reason) (j : Job) → written_by (status_of reason) j ≡ range_if (uses_key reason j.cipher) j
 by-reason None j = refl

@@ -193,7 +193,7 @@ impl Engine {
     }
 
     /// Takes the agenda's first job: what finishes at once is done, and it goes on.
-    fn advance(&mut self, cause: Cause)
+    fn go_on_first(&mut self, cause: Cause)
         requires { self.old.machine.agenda ≢ [] }
         ensures step { self.new ≡ record (self.old) { machine = stepped cause self.old.machine } }
         ensures fewer { steps_ahead self.new.machine < steps_ahead self.old.machine }
@@ -211,7 +211,7 @@ impl Engine {
         ensures stages { stages_left self.new.machine.left ≤ stages_left self.old.machine.left }
     {
         'following: while !self.is_idle() {
-            self.advance(cause);
+            self.go_on_first(cause);
         }
     }
 

@@ -8,7 +8,7 @@ ghost use Rattle.mbj_manager.specs.Machine.Queues.{changed, count_end};
 ghost use Rattle.mbj_manager.specs.Inside.Courses.{AreCourses, IsSameRing, courses, ring_number};
 ghost use Rattle.mbj_manager.specs.Inside.Leaving.{At, Gives};
 ghost use Rattle.mbj_manager.specs.Inside.Joining.{Joins};
-ghost use Rattle.mbj_manager.specs.Inside.PlacedQueue.{HasRest, Takes, PlacedEntry, Waits, ended, led_queue, no_queue, pair_rest, rounds_in};
+ghost use Rattle.mbj_manager.specs.Inside.PlacedQueue.{HasRest, Takes, PlacedEntry, Waits, ended, advanced_queue, no_queue, pair_rest, rounds_in};
 
 use crate::cell::Cell;
 use crate::cell_ring::CellRing;
@@ -101,7 +101,7 @@ impl<K: JobKernel> LaneQueue<K> {
         requires some { 0 < length self.old.queued }
         requires rests { All HasRest self.old.queued }
         ensures least { result ≡ least (pair_rest rounds_in) self.old.queued }
-        ensures led { self.new ≡ led_queue result self.old }
+        ensures advanced { self.new ≡ advanced_queue result self.old }
     {
         self.lanes.run_shortest()
     }

@@ -118,7 +118,7 @@ pub trait ChainedKind: ChainedEntry {
         requires fits { fits }
         requires next { IsNext kind course.old }
         ensures { IsHandedOut kind (Self.rest_of result)
-            (brings (end_of (chained_once Self.key_of Self.block_of Self.chain_of Self.led Self.kept) Self.rest_of result)) course.new course.old };
+            (brings (end_of (chained_once Self.key_of Self.block_of Self.chain_of Self.advanced Self.kept) Self.rest_of result)) course.new course.old };
 
     /// Takes an entry back that has no round left.
     fn take_back(course: &mut Course, entry: Self)

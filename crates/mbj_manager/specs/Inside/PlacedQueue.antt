@@ -32,8 +32,8 @@ pair_rest rest p = rest p.1
 abbrev pub HasRest : PlacedEntry → Type 0
 HasRest w = 1 ≤ w.1.rounds
 
-abbrev pub led_entry : ℕ → PlacedEntry → PlacedEntry
-led_entry m w = (w.0, record { rounds = w.1.rounds - m; brings = w.1.brings })
+abbrev pub advanced_entry : ℕ → PlacedEntry → PlacedEntry
+advanced_entry m w = (w.0, record { rounds = w.1.rounds - m; brings = w.1.brings })
 
 -- the entries, each with its job's place
 abbrev pub queued_of : {E : Type 0} → (E → E) → (E → ℕ) → (E → End) → List ℕ → List E → List PlacedEntry
@@ -64,9 +64,9 @@ numbered_queue f l = placed_queue (numbered f l.queued) l.rounds l.blocks
 abbrev pub with_queued : ℕ → EntryView → PlacedQueue → PlacedQueue
 with_queued place a l = record l { queued = l.queued ++ (place, a) ∷ [] }
 
--- all were led by m rounds
-abbrev pub led_queue : ℕ → PlacedQueue → PlacedQueue
-led_queue m l = record l { queued = map (led_entry m) l.queued }
+-- all were advanced by m rounds
+abbrev pub advanced_queue : ℕ → PlacedQueue → PlacedQueue
+advanced_queue m l = record l { queued = map (advanced_entry m) l.queued }
 
 -- nobody is finished
 pub record Waits (old new : PlacedQueue) : Type 0 where

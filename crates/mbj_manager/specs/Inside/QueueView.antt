@@ -8,11 +8,11 @@ use Rattle.mbj_manager.specs.Machine.Queues.{changed, count_end}
 use Rattle.mbj_manager.specs.declared.lane.Cause.{Cause}
 use Rattle.mbj_manager.specs.declared.lane.Cause.TheVariants as cause
 use Rattle.mbj_manager.specs.Inside.Leaving.{At, Gives, IsAbsent, finishers, numbers, others, returned}
-use Rattle.mbj_manager.specs.Inside.PlacedQueue.{EntryView, HasRest, PlacedQueue, PlacedEntry, brings_in, led_entry, numbered, pair_rest, rounds_in}
+use Rattle.mbj_manager.specs.Inside.PlacedQueue.{EntryView, HasRest, PlacedQueue, PlacedEntry, brings_in, advanced_entry, numbered, pair_rest, rounds_in}
 
 -- a lane queue after a run by its least rest, those with no round left still in it
-abbrev pub led_all : List PlacedEntry → List PlacedEntry
-led_all ws = map (led_entry (least (pair_rest rounds_in) ws)) ws
+abbrev pub advanced_all : List PlacedEntry → List PlacedEntry
+advanced_all ws = map (advanced_entry (least (pair_rest rounds_in) ws)) ws
 
 pub record QueueView : Type 0 where
   pub courses : List CourseState
@@ -43,11 +43,11 @@ left_now d = left_by d.queued d
 
 -- a run of the lane queue
 abbrev pub ran_at : Cause → QueueView → QueueView
-ran_at cause.Submit d = record (left_by (led_all d.queued) d) {
+ran_at cause.Submit d = record (left_by (advanced_all d.queued) d) {
   rounds = (d.rounds + least (pair_rest rounds_in) d.queued) % count_end;
   blocks = (d.blocks + least (pair_rest rounds_in) d.queued * length d.queued) % count_end;
 }
-ran_at cause.Flush d = record (left_by (led_all d.queued) d) { flush_runs = (d.flush_runs + 1) % count_end }
+ran_at cause.Flush d = record (left_by (advanced_all d.queued) d) { flush_runs = (d.flush_runs + 1) % count_end }
 
 -- the job n joins with its entry
 abbrev pub joined_by : ℕ → EntryView → QueueView → QueueView

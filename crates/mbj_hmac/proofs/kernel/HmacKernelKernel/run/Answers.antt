@@ -18,9 +18,9 @@ run-requires-clause-rests g c i h busy =
 pub returns : goal.returns
 returns g c =
     let es = c.args.entries.now in
-    let led = after (round g.H.LaneHash.chaining) c.args.m in
+    let advanced = after (round g.H.LaneHash.chaining) c.args.m in
     let size : length c.give_back.new.entries ≡ length es = omega (arith, c.give_back.auto.entries, c.run.auto.entries) in
-    all_changed led es c.give_back.new.entries size (λ i lt.
+    all_changed advanced es c.give_back.new.entries size (λ i lt.
     let few : i < most_lanes = omega (arith, c.requires.lanes, g.met.H.LaneHash.narrow) in
-    c.give_back.ensures i (omega (arith, c.run.auto.entries)) ∙ c.run.ensures.led i few (c.of-lanes.ensures.rests i lt)
-    ∙ ap led (ap₂ (λ s n. with_chains s n (entry_in es i)) (c.of-lanes.ensures.chains i lt) (c.of-lanes.ensures.inners i lt)))
+    c.give_back.ensures i (omega (arith, c.run.auto.entries)) ∙ c.run.ensures.advanced i few (c.of-lanes.ensures.rests i lt)
+    ∙ ap advanced (ap₂ (λ s n. with_chains s n (entry_in es i)) (c.of-lanes.ensures.chains i lt) (c.of-lanes.ensures.inners i lt)))

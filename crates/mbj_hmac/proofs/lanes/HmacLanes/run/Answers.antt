@@ -4,7 +4,7 @@ use Rattle.mbj_lane.specs.Rounds.{after}
 use Rattle.mbj_hmac.specs.declared.lanes.Rests.{Rests}
 use Rattle.mbj_hmac.specs.Rounds.{HmacState, round, turned}
 use Rattle.mbj_hmac.specs.Inside.InLanes.{entry_in, idle, lowered, most_lanes, reach_at, seen_at, with_chains}
-use Rattle.mbj_hmac.proofs.InLanes.{all_left, has_entry, lane_turned, led_on, lowered_next, lowered_none, reach_le, still_busy, tied_le, tied_reach}
+use Rattle.mbj_hmac.proofs.InLanes.{all_left, has_entry, lane_turned, advanced_on, lowered_next, lowered_none, reach_le, still_busy, tied_le, tied_reach}
 use Rattle.mbj_hmac.proofs.lanes.HmacLanes.run.Goals as goal
 
 pub loop-left-init : goal.loop-left-init
@@ -15,7 +15,7 @@ loop-left-init g c =
       tied = c.requires.tied;
       ready = c.requires.ready;
       rests = λ i h. rw none (sym (lowered_none (lane_at 32 c.args.self.now.rests.left i)));
-      led = λ i h busy. rw none refl;
+      advanced = λ i h busy. rw none refl;
     }
 
 pub stretch-requires-clause-tied : goal.stretch-requires-clause-tied
@@ -69,7 +69,7 @@ loop-left-preserved g c =
       rests = λ i l.
           c.stretch.ensures.rests i l ∙ ap (lowered len) (same i)
           ∙ lowered_next m left (lane_at 32 first.rests.left i) (lane_at 32 now.rests.left i) (le i l) inv.within (inv.rests i l) (c.requires.rests i l) len within;
-      led = λ i l busy.
+      advanced = λ i l busy.
           let r : ℕ = lane_at 32 now.rests.left i in
           let t : ℕ = lane_at 32 now.rests.turns i in
           let e : HmacState = entry_in es i in
@@ -84,17 +84,17 @@ loop-left-preserved g c =
           let turned_is : seen_at (lane turns.states) (lane turns.inner) es i ≡ turned h (seen_at (lane now.states) (lane now.inner) es i) =
           ap₂ (λ s n. with_chains s n e) (c.turn_due.ensures.states i lt) (c.turn_due.ensures.inner i lt)
           ∙ lane_turned h r t (lane now.states i) (lane now.inner i) (lane now.starts i) e (inv.tied.tied i l) busy' start in
-          led_on h m left len (seen_at (lane first.states) (lane first.inner) c.args.entries.now i) (seen_at (lane now.states) (lane now.inner) es i)
+          advanced_on h m left len (seen_at (lane first.states) (lane first.inner) c.args.entries.now i) (seen_at (lane now.states) (lane now.inner) es i)
           (seen_at (lane turns.states) (lane turns.inner) es i) (seen_at (lane c.stretch.new.self.states) (lane c.stretch.new.self.inner) c.stretch.new.entries i)
-          inv.within some within (inv.led i l busy) turned_is (c.stretch.ensures.led i l turn) (omega (arith, reach, far));
+          inv.within some within (inv.advanced i l busy) turned_is (c.stretch.ensures.advanced i l turn) (omega (arith, reach, far));
     }
 
-pub returns-clause-led : goal.returns-clause-led
-returns-clause-led g c i h busy =
+pub returns-clause-advanced : goal.returns-clause-advanced
+returns-clause-advanced g c i h busy =
     let lane = g.H.LaneHash.lane in
     let self = c.args.self.now in
     let all : c.args.m - c.loop-left.left ≡ c.args.m = omega arith in
-    c.loop-left.invariant.led i h busy
+    c.loop-left.invariant.advanced i h busy
     ∙ ap (λ n. after (round g.H.LaneHash.chaining) n (seen_at (lane self.states) (lane self.inner) c.args.entries.now i)) all
 
 pub returns-clause-rests : goal.returns-clause-rests

@@ -2,7 +2,7 @@ use Rattle.std.proofs.Common.{◌<◌, ◌∙◌, List, length, ap, arith}
 use Rattle.mbj_types.specs.Lanes.{lane_at}
 use Rattle.mbj_hmac.specs.Rounds.{HmacState}
 use Rattle.mbj_hmac.specs.Inside.InLanes.{entry_in}
-use Rattle.mbj_hmac.proofs.InLanes.{all_moved, all_ready, entry_in-moved, has_entry, lane_led, tied_le}
+use Rattle.mbj_hmac.proofs.InLanes.{all_moved, all_ready, entry_in-moved, has_entry, lane_advanced, tied_le}
 use Rattle.mbj_hmac.proofs.lanes.HmacLanes.stretch.Goals as goal
 
 pub compressed-requires-clause-digests : goal.compressed-requires-clause-digests
@@ -29,13 +29,13 @@ returns-clause-ready g c =
     (all_ready g.H.LaneHash.chaining c.args.m (g.H.LaneHash.lane self.starts) rests.bits rests.left c.lowered-self.result rests.turns c.args.entries.now
     c.requires.tied (returns-clause-rests g c) c.requires.ready)
 
-pub returns-clause-led : goal.returns-clause-led
-returns-clause-led g c i h busy =
+pub returns-clause-advanced : goal.returns-clause-advanced
+returns-clause-advanced g c i h busy =
     let self = c.args.self.now in
     let rests = self.rests in
     let lane = g.H.LaneHash.lane in
     let es = c.args.entries.now in
     let inside : i < length es = has_entry rests.left rests.turns es c.requires.tied i h busy in
-    lane_led g.H.LaneHash.chaining c.args.m (lane self.states i) (lane self.inner i) (lane c.compressed.new.states i) (entry_in es i) (entry_in c.go_on.new.entries i)
+    lane_advanced g.H.LaneHash.chaining c.args.m (lane self.states i) (lane self.inner i) (lane c.compressed.new.states i) (entry_in es i) (entry_in c.go_on.new.entries i)
     (c.compressed.ensures i (omega (arith, c.requires.few)) busy)
     (ap (λ (xs : List HmacState). entry_in xs i) c.go_on.ensures ∙ entry_in-moved c.args.m es i)

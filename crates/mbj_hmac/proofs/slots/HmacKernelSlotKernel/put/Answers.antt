@@ -27,7 +27,7 @@ returns g c =
     let old = s.lanes.rests in
     let new = c.enter.new.self.rests in
     let lane = g.H.LaneHash.lane s.lanes.states in
-    let led = g.H.LaneHash.lane c.enter.new.self.states in
+    let advanced = g.H.LaneHash.lane c.enter.new.self.states in
     let inner = g.H.LaneHash.lane s.lanes.inner in
     let done = g.H.LaneHash.lane c.enter.new.self.inner in
     let in_ = c.enter.ensures in
@@ -36,11 +36,11 @@ returns g c =
     let e = c.args.entry in
     let lt : i < length es = omega (arith, c.requires.lane, c.slots.invariant.1) in
     let few = in_.few in
-    let slots = slot_at led done new.left (set es i e) in
+    let slots = slot_at advanced done new.left (set es i e) in
     record {
-      here = slot_is n slots i c.requires.lane ∙ slot_busy led done new.left (set es i e) i (omega (arith, in_.rest, few))
+      here = slot_is n slots i c.requires.lane ∙ slot_busy advanced done new.left (set es i e) i (omega (arith, in_.rest, few))
           ∙ ap Some (ap₂ (λ a b. with_chains a b (entry_in (set es i e) i)) in_.chain in_.inner ∙ ap (with_chains e.chain e.inner) (get_or-set_same es i e blank lt));
       others = λ j l apart.
-          slot_is n slots j l ∙ slot_same lane led inner done old.left new.left es e i j apart (in_.rests j (omega (arith, g.met.H.LaneHash.narrow)) apart) (in_.chains j l apart) (in_.inners j l apart)
+          slot_is n slots j l ∙ slot_same lane advanced inner done old.left new.left es e i j apart (in_.rests j (omega (arith, g.met.H.LaneHash.narrow)) apart) (in_.chains j l apart) (in_.inners j l apart)
           ∙ sym (slot_here n lane inner old.left old.turns es c.args.slots.now c.slots.view_is c.slots.invariant.0 c.slots.invariant.1 g.met.H.LaneHash.narrow j l);
     }

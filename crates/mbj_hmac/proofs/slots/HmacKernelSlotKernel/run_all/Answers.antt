@@ -4,7 +4,7 @@ use Rattle.std.proofs.lemmas.List.{with_items_is}
 use Rattle.mbj_lane.specs.Rounds.{after}
 use Rattle.mbj_hmac.specs.Rounds.{HmacState, round}
 use Rattle.mbj_hmac.specs.Inside.InLanes.{AreReady, AreTied, seen_at}
-use Rattle.mbj_hmac.proofs.InLanes.{entry_slot, slots_led}
+use Rattle.mbj_hmac.proofs.InLanes.{entry_slot, slots_advanced}
 use Rattle.mbj_hmac.proofs.slots.HmacKernelSlotKernel.run_all.Goals as goal
 
 pub run-requires-clause-rests : goal.run-requires-clause-rests
@@ -42,11 +42,11 @@ returns g c =
     let inner = g.H.LaneHash.lane s.lanes.inner in
     let es = s.entries.items in
     let all = s.entries in
-    let led = g.H.LaneHash.lane c.run.new.self.states in
+    let advanced = g.H.LaneHash.lane c.run.new.self.states in
     let done = g.H.LaneHash.lane c.run.new.self.inner in
     let whole : length c.run.new.entries ≡ all.len = omega (arith, c.run.auto.entries, ap length c.deref_mut.ensures.value, all.ok.0) in
     let is = with_items_is all c.run.new.entries whole in
-    let moves = rw c.deref_mut.ensures.value at c.run.ensures.led in
-    slots_led n lane inner rests.left rests.turns es c.args.slots.now c.slots.view_is c.slots.invariant.0 c.slots.invariant.1 g.met.H.LaneHash.narrow
-    (after (round g.H.LaneHash.chaining) c.args.m) c.args.m led done c.run.new.self.rests.left (with_items all c.run.new.entries).items
-    (λ i h busy. ap (λ (xs : List HmacState). seen_at led done xs i) is ∙ moves i h busy) c.run.ensures.rests
+    let moves = rw c.deref_mut.ensures.value at c.run.ensures.advanced in
+    slots_advanced n lane inner rests.left rests.turns es c.args.slots.now c.slots.view_is c.slots.invariant.0 c.slots.invariant.1 g.met.H.LaneHash.narrow
+    (after (round g.H.LaneHash.chaining) c.args.m) c.args.m advanced done c.run.new.self.rests.left (with_items all c.run.new.entries).items
+    (λ i h busy. ap (λ (xs : List HmacState). seen_at advanced done xs i) is ∙ moves i h busy) c.run.ensures.rests

@@ -1,6 +1,6 @@
 use Rattle.std.proofs.Common.{arith}
 use Rattle.mbj_lane.specs.Rounds.{after}
-use Rattle.mbj_lane.proofs.Led.{written-back}
+use Rattle.mbj_lane.proofs.Advanced.{written-back}
 use Rattle.mbj_job_tests.proofs.Gathering.{few-entries, slot-of, at-map}
 use Rattle.mbj_job_tests.proofs.gathered.GatheredSlots.run_all.Goals as goal
 
@@ -19,7 +19,7 @@ run-requires-clause-rests g c =
 pub returns : goal.returns
 returns g c =
     let s = c.self.inside in
-    let led = after g.K.Kernel.round c.args.m in
+    let advanced = after g.K.Kernel.round c.args.m in
     let all = s.entries in
-    let is = written-back led all.len all.items _ _ (omega (arith, all.ok.0)) c.deref_mut.ensures.value c.run.ensures in
-    λ i lt. rw (is, ← c.self.view_is) (at-map led s.places.items s.entries.items i)
+    let is = written-back advanced all.len all.items _ _ (omega (arith, all.ok.0)) c.deref_mut.ensures.value c.run.ensures in
+    λ i lt. rw (is, ← c.self.view_is) (at-map advanced s.places.items s.entries.items i)

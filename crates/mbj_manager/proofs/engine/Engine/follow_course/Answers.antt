@@ -16,16 +16,16 @@ following-preserved c =
     let at = c.args.cause in
     let m = c.following.self.machine in
     let end = course at c.args.self.now.machine in
-    let step = c.advance.ensures.step in
+    let step = c.go_on_first.ensures.step in
     let machine = ap (λ (h : ManagerState). h.machine) step in
     record {
       reaches = subst (λ (x : Machine). Reaches at x end) (sym machine)
-          (reaches-step at m end (subst (λ (x : Machine). steps_ahead x < steps_ahead m) machine c.advance.ensures.fewer) c.following.invariant.reaches);
+          (reaches-step at m end (subst (λ (x : Machine). steps_ahead x < steps_ahead m) machine c.go_on_first.ensures.fewer) c.following.invariant.reaches);
       owed_is = ap (λ (h : ManagerState). h.owed) step ∙ c.following.invariant.owed_is;
       jobs_are = ap (λ (h : ManagerState). h.jobs) step ∙ c.following.invariant.jobs_are;
       opened_is = ap (λ (h : ManagerState). h.opened) step ∙ c.following.invariant.opened_is;
       count_is = ap (λ (h : ManagerState). h.expansions) step ∙ c.following.invariant.count_is;
-      stages = omega (arith, c.advance.ensures.stages, c.following.invariant.stages);
+      stages = omega (arith, c.go_on_first.ensures.stages, c.following.invariant.stages);
     }
 
 pub returns-clause-course : goal.returns-clause-course

@@ -5,23 +5,23 @@ use Rattle.std.specs.Option.{option_map}
 use Rattle.mbj_lane.specs.Rounds.{after}
 use Rattle.mbj_aes_lanes.specs.ChainedEntry.{chained_once}
 use Rattle.mbj_aes_lanes.specs.Inside.Slots.{IsKeyOf, HasRounds}
-use Rattle.mbj_aes_lanes.proofs.Chains.{ChainLaws, IsLed, led-none, led-rest, led-more, led-kept}
+use Rattle.mbj_aes_lanes.proofs.Chains.{ChainLaws, IsLed, advanced-none, advanced-rest, advanced-more, advanced-kept}
 use Rattle.mbj_aes_lanes.proofs.SlotFacts.{has-rounds, rounds-of}
-use Rattle.mbj_aes_lanes.proofs.slot_rounds.lead_by.Given as given
-use Rattle.mbj_aes_lanes.proofs.slot_rounds.lead_by.Goals as goal
+use Rattle.mbj_aes_lanes.proofs.slot_rounds.advance_by.Given as given
+use Rattle.mbj_aes_lanes.proofs.slot_rounds.advance_by.Goals as goal
 
 laws : (g : given.Over)
-    → ChainLaws g.E.ChainedEntry.key_of g.E.ChainedEntry.block_of g.E.ChainedEntry.chain_of g.E.ChainedEntry.rest_of g.E.ChainedEntry.led g.E.ChainedEntry.kept
+    → ChainLaws g.E.ChainedEntry.key_of g.E.ChainedEntry.block_of g.E.ChainedEntry.chain_of g.E.ChainedEntry.rest_of g.E.ChainedEntry.advanced g.E.ChainedEntry.kept
 laws g =
     let met = g.met.E.ChainedEntry in record {
       takes = met.takes;
       keeps_own = met.keeps_own;
       keeps_last = met.keeps_last;
-      leads_rest = met.leads_rest;
+      advances_rest = met.advances_rest;
       keeps_key = met.keeps_key;
       keeps_block = met.keeps_block;
       keeps_rest = met.keeps_rest;
-      leads_key = met.leads_key;
+      advances_key = met.advances_key;
       falls = met.falls;
     }
 
@@ -32,8 +32,8 @@ pub passes-init : goal.passes-init
 passes-init g c =
     let e = g.E.ChainedEntry in
     let chain = g.C.BlocksCipher.chain_in in record {
-      led = λ i h.
-          led-none e.key_of e.block_of e.chain_of e.rest_of e.led e.kept (laws g) (chain c.load-chains.result i)
+      advanced = λ i h.
+          advanced-none e.key_of e.block_of e.chain_of e.rest_of e.advanced e.kept (laws g) (chain c.load-chains.result i)
           (g.S.Slot.in_lane c.give_cmac_l.new.slots i) (c.load-chains.ensures i h);
       left = λ i h lt. refl;
     }
@@ -49,8 +49,8 @@ invariant_of-blocks-clause-rests g c i x h is =
     elim (cases_lt i (g.C.BlocksCipher.lanes_of c.args.cipher.now)) [
       | inl lt ↦
           rounds-of e.rest_of 1 now x
-          (led-rest e.key_of e.block_of e.chain_of e.rest_of e.led e.kept (laws g) c.passes.done c.args.m (chain c.passes.chains i)
-          o now (omega arith) has (c.passes.invariant.led i lt))
+          (advanced-rest e.key_of e.block_of e.chain_of e.rest_of e.advanced e.kept (laws g) c.passes.done c.args.m (chain c.passes.chains i)
+          o now (omega arith) has (c.passes.invariant.advanced i lt))
           is
       | inr le ↦ absurd (none-is-some x (sym (c.requires.idle i le h) ∙ same ∙ sym (c.passes.invariant.left i le h) ∙ is))
     ]
@@ -59,19 +59,19 @@ pub passes-preserved : goal.passes-preserved
 passes-preserved g c =
     let e = g.E.ChainedEntry in
     let chain = g.C.BlocksCipher.chain_in in
-    let done = c.lead_each.ensures in record {
-      led = λ i h.
+    let done = c.advance_each.ensures in record {
+      advanced = λ i h.
           let o = g.S.Slot.in_lane c.give_cmac_l.new.slots i in
           let now = g.S.Slot.in_lane c.passes.slots i in
           let before = chain c.passes.chains i in
           let next = chain c.chain.new.chains i in
           let w = g.C.BlocksCipher.schedule_of c.args.cipher.now i in
           let keyed = subst (λ es. IsKeyOf e.key_of w (g.S.Slot.in_lane es i)) (sym c.give_cmac_l.ensures) (c.requires.keys i h) in
-          let led = done.given i (omega (arith, h, c.lane_count-lanes.ensures.value))
-          ∙ ap (λ x. option_map (λ y. e.led y x) now) (c.store.ensures i h) in
-          subst (IsLed e.key_of e.block_of e.chain_of e.led e.kept (c.passes.done + 1) next o) (sym led)
-          (led-more e.key_of e.block_of e.chain_of e.rest_of e.led e.kept (laws g) c.passes.done before next w o now keyed (c.chain.ensures i h)
-          (c.passes.invariant.led i h));
+          let advanced = done.given i (omega (arith, h, c.lane_count-lanes.ensures.value))
+          ∙ ap (λ x. option_map (λ y. e.advanced y x) now) (c.store.ensures i h) in
+          subst (IsLed e.key_of e.block_of e.chain_of e.advanced e.kept (c.passes.done + 1) next o) (sym advanced)
+          (advanced-more e.key_of e.block_of e.chain_of e.rest_of e.advanced e.kept (laws g) c.passes.done before next w o now keyed (c.chain.ensures i h)
+          (c.passes.invariant.advanced i h));
       left = λ i le lt. done.left i (omega (arith, le, c.lane_count-lanes.ensures.value)) lt ∙ c.passes.invariant.left i le lt;
     }
 
@@ -80,7 +80,7 @@ returns g c i h =
     let e = g.E.ChainedEntry in
     let chain = g.C.BlocksCipher.chain_in in
     let at = g.S.Slot.in_lane in
-    let once = chained_once e.key_of e.block_of e.chain_of e.led e.kept in
+    let once = chained_once e.key_of e.block_of e.chain_of e.advanced e.kept in
     let old = at c.give_cmac_l.new.slots i in
     let all : c.passes.done ≡ c.args.m = omega arith in
     let same = ap (λ es. at es i) c.give_cmac_l.ensures in
@@ -88,8 +88,8 @@ returns g c i h =
       | inl lt ↦
           c.keep_each.ensures.given i (omega (arith, lt, c.lane_count-lanes.ensures.value))
           ∙ ap (λ x. option_map (λ y. e.kept y x) (at c.passes.slots i)) (c.store-2.ensures i lt)
-          ∙ led-kept e.key_of e.block_of e.chain_of e.rest_of e.led e.kept (laws g) c.passes.done (chain c.passes.chains i) old
-          (at c.passes.slots i) (c.passes.invariant.led i lt)
+          ∙ advanced-kept e.key_of e.block_of e.chain_of e.rest_of e.advanced e.kept (laws g) c.passes.done (chain c.passes.chains i) old
+          (at c.passes.slots i) (c.passes.invariant.advanced i lt)
           ∙ ap (λ (n : ℕ). option_map (after once n) old) all
           ∙ ap (option_map (after once c.args.m)) same
       | inr le ↦

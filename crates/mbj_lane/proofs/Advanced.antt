@@ -3,7 +3,7 @@ use Rattle.std.proofs.Common.{◌≡◌, ℕ, ◌+◌, ◌-◌, ◌≤◌, ◌<�
 use Rattle.mbj_lane.specs.Rounds.{after, end_of}
 use Rattle.mbj_lane.specs.Laws.{after-after, rest-after, end-after}
 
--- a list that was led on in its place
+-- a list that was advanced in its place
 pub written-back : {A : Type 0} (f : A → A) (n : ℕ) (xs ys zs : List A) → n ≡ length xs → zs ≡ xs → ys ≡ map f zs
     → take n (ys ++ drop (length ys) xs) ≡ map f xs
 written-back f n xs ys zs all same is = rw (all, is, same) (whole f xs)

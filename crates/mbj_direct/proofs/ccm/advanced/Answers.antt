@@ -1,7 +1,7 @@
 -- A run by all its rounds leaves the entry none.
 use Rattle.std.proofs.Common.{◌≡◌, ◌∙◌, ◌-◌, map, get_or, ap, arith}
 use Rattle.mbj_lane.specs.Rounds.{after}
-use Rattle.mbj_job_tests.proofs.stage.led.Goals as goal
+use Rattle.mbj_direct.proofs.ccm.advanced.Goals as goal
 
 pub returns-clause-done : goal.returns-clause-done
 returns-clause-done g c =

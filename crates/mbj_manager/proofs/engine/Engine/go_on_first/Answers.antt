@@ -8,7 +8,7 @@ use Rattle.mbj_manager.specs.Machine.Course.{stages_left}
 use Rattle.mbj_manager.specs.Machine.Queues.{Machine}
 use Rattle.mbj_manager.specs.State.{ManagerState}
 use Rattle.mbj_manager.proofs.CourseEnds.{step-of}
-use Rattle.mbj_manager.proofs.engine.Engine.advance.Goals as goal
+use Rattle.mbj_manager.proofs.engine.Engine.go_on_first.Goals as goal
 
 pub go_on-requires-clause-held : goal.go_on-requires-clause-held
 go_on-requires-clause-held c =

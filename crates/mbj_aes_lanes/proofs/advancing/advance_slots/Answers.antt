@@ -1,4 +1,4 @@
--- Few entries are led in the first slots, and go back.
+-- Few entries are advanced in the first slots, and go back.
 use Rattle.std.proofs.Common.{◌≡◌, ℕ, None, length, get_or, slice_index, ap, ◌∙◌, arith}
 use Rattle.std.specs.Option.{option_map}
 use Rattle.mbj_lane.specs.Rounds.{after}
@@ -6,10 +6,10 @@ use Rattle.mbj_aes_lanes.specs.ChainedEntry.{chained_once}
 use Rattle.mbj_aes_lanes.specs.Inside.Slots.{HasRounds}
 use Rattle.mbj_aes_lanes.proofs.GatheredSlots.{gathered-each, restored}
 use Rattle.mbj_aes_lanes.proofs.SlotFacts.{has-rounds, rounds-of}
-use Rattle.mbj_aes_lanes.proofs.leading.lead_slots.Goals as goal
+use Rattle.mbj_aes_lanes.proofs.advancing.advance_slots.Goals as goal
 
-pub lead-requires-clause-rests : goal.lead-requires-clause-rests
-lead-requires-clause-rests g c i x h is =
+pub advance-requires-clause-rests : goal.advance-requires-clause-rests
+advance-requires-clause-rests g c i x h is =
     let rest = g.E.ChainedEntry.rest_of in
     let m : ℕ = c.args.m in
     let es = c.args.slots.now in
@@ -29,10 +29,10 @@ returns-then-busy_in-le-FEW_LANES g c i h =
     let es = c.args.slots.now in
     let origins = c.gather-origins.ensures in
     let size = c.requires.size in
-    let change = option_map (after (chained_once e.key_of e.block_of e.chain_of e.led e.kept) c.args.m) in
-    let long : length c.lead.new.slots ≡ length es = omega (arith, c.lead.auto.slots, c.gather-origins.auto.slots) in
+    let change = option_map (after (chained_once e.key_of e.block_of e.chain_of e.advanced e.kept) c.args.m) in
+    let long : length c.advance.new.slots ≡ length es = omega (arith, c.advance.auto.slots, c.gather-origins.auto.slots) in
     ap (λ l. get_or l i None) c.scatter.ensures
-    ∙ restored (slice_index c.gather-origins.result.from) change None c.gather-origins.result.many es c.lead.new.slots
+    ∙ restored (slice_index c.gather-origins.result.from) change None c.gather-origins.result.many es c.advance.new.slots
     (omega (arith, size, origins.most))
     (λ p lt. omega (arith, size, origins.lanes p lt)) long
-    (λ k lt. c.lead.ensures k (omega (arith, size)) ∙ ap (λ l. change (get_or l k None)) origins.moved) i (omega (arith, size))
+    (λ k lt. c.advance.ensures k (omega (arith, size)) ∙ ap (λ l. change (get_or l k None)) origins.moved) i (omega (arith, size))
