@@ -136,7 +136,7 @@ impl<const N: usize> Timed for CcmKernel<N> {
 pub trait TimedHash: LaneHash {
     /// The HMAC.
     fn auth() -> Auth
-        ensures served { IsTrue (serves_auth Self.chaining result) }
+        ensures served { IsTrue (serves_auth Self.hashing result) }
         ensures hmac { IsHmac result };
 
     /// An entry of the HMAC from states, which are the first of these bytes, over the first `len` bytes of the packet.

@@ -12,14 +12,14 @@ use Rattle.mbj_lane.specs.Rounds.{end_of}
 use Rattle.mbj_hmac.specs.Names.{serves_class, serves_lanes_class, serves_plain_class, serves_states_class}
 use Rattle.mbj_hmac.specs.Begun.{Begins, begun, begun_keyed, begun_states}
 use Rattle.mbj_hmac.specs.Laws.Tests.{not_both}
-use Rattle.mbj_hmac.specs.Rounds.{Chaining, HmacState, compression, hashed, rest_of, round, started_plain, started_states}
+use Rattle.mbj_hmac.specs.Rounds.{Hashing, HmacState, compression, hashed, rest_of, round, started_plain, started_states}
 use Rattle.mbj_hmac.specs.Inside.Layout.{IsStandard}
 use Rattle.mbj_hmac.proofs.Hmacs.{hmac_end, packet_end, plain_end, plain_packet_end, states_end, states_packet_end}
 use Rattle.mbj_hmac.proofs.Keys.{length-block_key}
 
 -- ---- the hash that is served, by the class of the authentication
 
-pub keyed_name : (h : Chaining) (c : AuthClass) → IsTrue (serves_class h c) → (n : HashName) × (c ≡ class.Hmac n) × IsTrue (h.serves n)
+pub keyed_name : (h : Hashing) (c : AuthClass) → IsTrue (serves_class h c) → (n : HashName) × (c ≡ class.Hmac n) × IsTrue (h.serves n)
 keyed_name h class.Null t = absurd (not_both t)
 keyed_name h (class.Hmac n) t = (n, refl, t)
 keyed_name h (class.Cmac k) t = absurd (not_both t)
@@ -29,7 +29,7 @@ keyed_name h (class.Plain n) t = absurd (not_both t)
 keyed_name h class.Gmac t = absurd (not_both t)
 keyed_name h (class.States n) t = absurd (not_both t)
 
-pub plain_name : (h : Chaining) (c : AuthClass) → IsTrue (serves_plain_class h c) → (n : HashName) × (c ≡ class.Plain n) × IsTrue (h.serves n)
+pub plain_name : (h : Hashing) (c : AuthClass) → IsTrue (serves_plain_class h c) → (n : HashName) × (c ≡ class.Plain n) × IsTrue (h.serves n)
 plain_name h class.Null t = absurd (not_both t)
 plain_name h (class.Hmac n) t = absurd (not_both t)
 plain_name h (class.Cmac k) t = absurd (not_both t)
@@ -39,7 +39,7 @@ plain_name h (class.Plain n) t = (n, refl, t)
 plain_name h class.Gmac t = absurd (not_both t)
 plain_name h (class.States n) t = absurd (not_both t)
 
-pub states_name : (h : Chaining) (c : AuthClass) → IsTrue (serves_states_class h c) → (n : HashName) × (c ≡ class.States n) × IsTrue (h.serves n)
+pub states_name : (h : Hashing) (c : AuthClass) → IsTrue (serves_states_class h c) → (n : HashName) × (c ≡ class.States n) × IsTrue (h.serves n)
 states_name h class.Null t = absurd (not_both t)
 states_name h (class.Hmac n) t = absurd (not_both t)
 states_name h (class.Cmac k) t = absurd (not_both t)
@@ -50,7 +50,7 @@ states_name h class.Gmac t = absurd (not_both t)
 states_name h (class.States n) t = (n, refl, t)
 
 -- each of them is done in the lanes
-module _ (h : Chaining) (n : HashName) (t : IsTrue (h.serves n)) (c : AuthClass) where
+module _ (h : Hashing) (n : HashName) (t : IsTrue (h.serves n)) (c : AuthClass) where
   pub keyed_serves : c ≡ class.Hmac n → IsTrue (serves_lanes_class h c)
   keyed_serves is = subst (λ (x : AuthClass). IsTrue (serves_lanes_class h x)) (sym is) (rw t refl)
 
@@ -62,7 +62,7 @@ module _ (h : Chaining) (n : HashName) (t : IsTrue (h.serves n)) (c : AuthClass)
 
 -- ---- by the class, as an entry begins
 
-module _ (h : Chaining) (std : IsStandard h)
+module _ (h : Hashing) (std : IsStandard h)
     (hashes : (a : HashName) → IsTrue (h.serves a) → (m : List ℕ) → (hash_of_name a).digest m ≡ h.digest a (hashed h a m))
     (blocks : (a : HashName) → IsTrue (h.serves a) → (hash_of_name a).block_bytes ≡ h.block_bytes)
     (compressions : (a : HashName) → IsTrue (h.serves a) → compression_of_name a ≡ compression h a) where

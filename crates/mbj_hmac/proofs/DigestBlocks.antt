@@ -7,7 +7,7 @@ use Rattle.std.specs.Prelude.{nat_lt, if◌then◌else◌}
 use Rattle.mbj_hmac.specs.declared.form.Form.{Form}
 use Rattle.mbj_hmac.specs.declared.form.Form.TheVariants.{Plain, Keyed, States}
 use Rattle.mbj_hmac.specs.Forms.{made_rounds_of, outer_rounds_of}
-use Rattle.mbj_hmac.specs.Rounds.{Chaining, HmacState, block_at, block_before, outer_rounds, padded_in}
+use Rattle.mbj_hmac.specs.Rounds.{Hashing, HmacState, block_at, block_before, outer_rounds, padded_in}
 use Rattle.mbj_hmac.specs.Inside.InLanes.{HasDigest, IsTied, block_in, idle, never, outer_left, with_chains}
 use Rattle.mbj_hmac.specs.Inside.Layout.{IsStandard, digest_block}
 use Rattle.mbj_hmac.proofs.InLanes.{tied_rest, tied_turn}
@@ -33,7 +33,7 @@ made_last Plain x t k d et ek same = let none : k ≡ 0 = ek ∙ ap (outer_left 
 made_last Keyed x t k d et ek same = let all : k ≡ x = ek ∙ ap (outer_left x) et in (omega arith, omega arith)
 made_last States x t k d et ek same = let all : k ≡ x = ek ∙ ap (outer_left x) et in (omega arith, omega arith)
 
-module _ (h : Chaining) (std : IsStandard h) where
+module _ (h : Hashing) (std : IsStandard h) where
   abbrev b : ℕ
   b = h.block_bytes
 

@@ -8,7 +8,7 @@ use Rattle.sha2.specs.Sha512 as Sha512
 use Rattle.mbj_types.specs.declared.class.HashName.{HashName}
 use Rattle.mbj_types.specs.declared.class.HashName.TheVariants as hash
 use Rattle.mbj_sha_lanes.specs.Words.{words32, words64}
-use Rattle.mbj_hmac.specs.Chainings.{is_sha1, is_sha256, is_sha512, sha1_chaining, sha256_chaining, sha512_chaining}
+use Rattle.mbj_hmac.specs.Hashings.{is_sha1, is_sha256, is_sha512, sha1_hashing, sha256_hashing, sha512_hashing}
 use Rattle.mbj_hmac.specs.Inside.InLanes.{IsDigestBits}
 use Rattle.mbj_hmac.specs.Inside.Layout.{digest_block}
 use Rattle.mbj_hmac.specs.Laws.Tests.{not_both}
@@ -25,15 +25,15 @@ abbrev one64 : ℕ
 one64 = 0x8000000000000000
 
 module _ (a b c d e : ℕ) (fa : a < 2 ^ 32) (fb : b < 2 ^ 32) (fc : c < 2 ^ 32) (fd : d < 2 ^ 32) (fe : e < 2 ^ 32) where
-  sha1_words : words32 (digest_block sha1_chaining hash.Sha1 (a ∷ b ∷ c ∷ d ∷ e ∷ []))
+  sha1_words : words32 (digest_block sha1_hashing hash.Sha1 (a ∷ b ∷ c ∷ d ∷ e ∷ []))
       ≡ a ∷ b ∷ c ∷ d ∷ e ∷ one32 ∷ 0 ∷ 0 ∷ 0 ∷ 0 ∷ 0 ∷ 0 ∷ 0 ∷ 0 ∷ 0 ∷ 672 ∷ []
   unfolding Sha1.digest_bytes
   sha1_words =
       before _ _ _ _ (from_be_bytes-to_be_bytes_4 a fa) (before _ _ _ _ (from_be_bytes-to_be_bytes_4 b fb) (before _ _ _ _ (from_be_bytes-to_be_bytes_4 c fc)
       (before _ _ _ _ (from_be_bytes-to_be_bytes_4 d fd) (before _ _ _ _ (from_be_bytes-to_be_bytes_4 e fe) refl))))
 
-  pub sha1_block : (h : HashName) (bits one zero : ℕ) → IsTrue (is_sha1 h) → IsDigestBits sha1_chaining h bits → one ≡ one32 → zero ≡ 0
-      → words32 (digest_block sha1_chaining h (a ∷ b ∷ c ∷ d ∷ e ∷ []))
+  pub sha1_block : (h : HashName) (bits one zero : ℕ) → IsTrue (is_sha1 h) → IsDigestBits sha1_hashing h bits → one ≡ one32 → zero ≡ 0
+      → words32 (digest_block sha1_hashing h (a ∷ b ∷ c ∷ d ∷ e ∷ []))
       ≡ a ∷ b ∷ c ∷ d ∷ e ∷ one ∷ zero ∷ zero ∷ zero ∷ zero ∷ zero ∷ zero ∷ zero ∷ zero ∷ zero ∷ bits ∷ []
   unfolding Sha1.digest_bytes
   sha1_block hash.Sha1 bits one zero served is e1 e0 = let n : bits ≡ 672 = is [] in rw (n, e1, e0) sha1_words
@@ -43,7 +43,7 @@ module _ (a b c d e : ℕ) (fa : a < 2 ^ 32) (fb : b < 2 ^ 32) (fc : c < 2 ^ 32)
   sha1_block hash.Sha512 bits one zero served is e1 e0 = absurd (not_both served)
 
 module _ (a b c d e f g h : ℕ) (fa : a < 2 ^ 32) (fb : b < 2 ^ 32) (fc : c < 2 ^ 32) (fd : d < 2 ^ 32) (fe : e < 2 ^ 32) (ff : f < 2 ^ 32) (fg : g < 2 ^ 32) (fh : h < 2 ^ 32) where
-  sha224_words : words32 (digest_block sha256_chaining hash.Sha224 (a ∷ b ∷ c ∷ d ∷ e ∷ f ∷ g ∷ h ∷ []))
+  sha224_words : words32 (digest_block sha256_hashing hash.Sha224 (a ∷ b ∷ c ∷ d ∷ e ∷ f ∷ g ∷ h ∷ []))
       ≡ a ∷ b ∷ c ∷ d ∷ e ∷ f ∷ g ∷ one32 ∷ 0 ∷ 0 ∷ 0 ∷ 0 ∷ 0 ∷ 0 ∷ 0 ∷ 736 ∷ []
   unfolding Sha256.digest_bytes
   sha224_words =
@@ -51,7 +51,7 @@ module _ (a b c d e f g h : ℕ) (fa : a < 2 ^ 32) (fb : b < 2 ^ 32) (fc : c < 2
       (before _ _ _ _ (from_be_bytes-to_be_bytes_4 d fd) (before _ _ _ _ (from_be_bytes-to_be_bytes_4 e fe) (before _ _ _ _ (from_be_bytes-to_be_bytes_4 f ff)
       (before _ _ _ _ (from_be_bytes-to_be_bytes_4 g fg) refl))))))
 
-  sha256_words : words32 (digest_block sha256_chaining hash.Sha256 (a ∷ b ∷ c ∷ d ∷ e ∷ f ∷ g ∷ h ∷ []))
+  sha256_words : words32 (digest_block sha256_hashing hash.Sha256 (a ∷ b ∷ c ∷ d ∷ e ∷ f ∷ g ∷ h ∷ []))
       ≡ a ∷ b ∷ c ∷ d ∷ e ∷ f ∷ g ∷ h ∷ one32 ∷ 0 ∷ 0 ∷ 0 ∷ 0 ∷ 0 ∷ 0 ∷ 768 ∷ []
   unfolding Sha256.digest_bytes
   sha256_words =
@@ -59,9 +59,9 @@ module _ (a b c d e f g h : ℕ) (fa : a < 2 ^ 32) (fb : b < 2 ^ 32) (fc : c < 2
       (before _ _ _ _ (from_be_bytes-to_be_bytes_4 d fd) (before _ _ _ _ (from_be_bytes-to_be_bytes_4 e fe) (before _ _ _ _ (from_be_bytes-to_be_bytes_4 f ff)
       (before _ _ _ _ (from_be_bytes-to_be_bytes_4 g fg) (before _ _ _ _ (from_be_bytes-to_be_bytes_4 h fh) refl)))))))
 
-  pub sha256_block : (n : HashName) (bits w7 w8 zero : ℕ) → IsTrue (is_sha256 n) → IsDigestBits sha256_chaining n bits
+  pub sha256_block : (n : HashName) (bits w7 w8 zero : ℕ) → IsTrue (is_sha256 n) → IsDigestBits sha256_hashing n bits
       → w7 ≡ cond (eqb bits 768) h one32 → w8 ≡ cond (eqb bits 768) one32 0 → zero ≡ 0
-      → words32 (digest_block sha256_chaining n (a ∷ b ∷ c ∷ d ∷ e ∷ f ∷ g ∷ h ∷ []))
+      → words32 (digest_block sha256_hashing n (a ∷ b ∷ c ∷ d ∷ e ∷ f ∷ g ∷ h ∷ []))
       ≡ a ∷ b ∷ c ∷ d ∷ e ∷ f ∷ g ∷ w7 ∷ w8 ∷ zero ∷ zero ∷ zero ∷ zero ∷ zero ∷ zero ∷ bits ∷ []
   unfolding Sha256.digest_bytes
   sha256_block hash.Sha1 bits w7 w8 zero served is e7 e8 e0 = absurd (not_both served)
@@ -79,7 +79,7 @@ module _ (a b c d e f g h : ℕ) (fa : a < 2 ^ 32) (fb : b < 2 ^ 32) (fc : c < 2
   sha256_block hash.Sha512 bits w7 w8 zero served is e7 e8 e0 = absurd (not_both served)
 
 module _ (a b c d e f g h : ℕ) (fa : a < 2 ^ 64) (fb : b < 2 ^ 64) (fc : c < 2 ^ 64) (fd : d < 2 ^ 64) (fe : e < 2 ^ 64) (ff : f < 2 ^ 64) (fg : g < 2 ^ 64) (fh : h < 2 ^ 64) where
-  sha384_words : words64 (digest_block sha512_chaining hash.Sha384 (a ∷ b ∷ c ∷ d ∷ e ∷ f ∷ g ∷ h ∷ []))
+  sha384_words : words64 (digest_block sha512_hashing hash.Sha384 (a ∷ b ∷ c ∷ d ∷ e ∷ f ∷ g ∷ h ∷ []))
       ≡ a ∷ b ∷ c ∷ d ∷ e ∷ f ∷ one64 ∷ 0 ∷ 0 ∷ 0 ∷ 0 ∷ 0 ∷ 0 ∷ 0 ∷ 0 ∷ 1408 ∷ []
   unfolding Sha512.digest_bytes
   sha384_words =
@@ -87,7 +87,7 @@ module _ (a b c d e f g h : ℕ) (fa : a < 2 ^ 64) (fb : b < 2 ^ 64) (fc : c < 2
       (before _ _ _ _ (from_be_bytes-to_be_bytes_8 d fd) (before _ _ _ _ (from_be_bytes-to_be_bytes_8 e fe) (before _ _ _ _ (from_be_bytes-to_be_bytes_8 f ff)
       refl)))))
 
-  sha512_words : words64 (digest_block sha512_chaining hash.Sha512 (a ∷ b ∷ c ∷ d ∷ e ∷ f ∷ g ∷ h ∷ []))
+  sha512_words : words64 (digest_block sha512_hashing hash.Sha512 (a ∷ b ∷ c ∷ d ∷ e ∷ f ∷ g ∷ h ∷ []))
       ≡ a ∷ b ∷ c ∷ d ∷ e ∷ f ∷ g ∷ h ∷ one64 ∷ 0 ∷ 0 ∷ 0 ∷ 0 ∷ 0 ∷ 0 ∷ 1536 ∷ []
   unfolding Sha512.digest_bytes
   sha512_words =
@@ -95,9 +95,9 @@ module _ (a b c d e f g h : ℕ) (fa : a < 2 ^ 64) (fb : b < 2 ^ 64) (fc : c < 2
       (before _ _ _ _ (from_be_bytes-to_be_bytes_8 d fd) (before _ _ _ _ (from_be_bytes-to_be_bytes_8 e fe) (before _ _ _ _ (from_be_bytes-to_be_bytes_8 f ff)
       (before _ _ _ _ (from_be_bytes-to_be_bytes_8 g fg) (before _ _ _ _ (from_be_bytes-to_be_bytes_8 h fh) refl)))))))
 
-  pub sha512_block : (n : HashName) (bits w6 w7 w8 zero : ℕ) → IsTrue (is_sha512 n) → IsDigestBits sha512_chaining n bits
+  pub sha512_block : (n : HashName) (bits w6 w7 w8 zero : ℕ) → IsTrue (is_sha512 n) → IsDigestBits sha512_hashing n bits
       → w6 ≡ cond (eqb bits 1536) g one64 → w7 ≡ cond (eqb bits 1536) h 0 → w8 ≡ cond (eqb bits 1536) one64 0 → zero ≡ 0
-      → words64 (digest_block sha512_chaining n (a ∷ b ∷ c ∷ d ∷ e ∷ f ∷ g ∷ h ∷ []))
+      → words64 (digest_block sha512_hashing n (a ∷ b ∷ c ∷ d ∷ e ∷ f ∷ g ∷ h ∷ []))
       ≡ a ∷ b ∷ c ∷ d ∷ e ∷ f ∷ w6 ∷ w7 ∷ w8 ∷ zero ∷ zero ∷ zero ∷ zero ∷ zero ∷ zero ∷ bits ∷ []
   unfolding Sha512.digest_bytes
   sha512_block hash.Sha1 bits w6 w7 w8 zero served is e6 e7 e8 e0 = absurd (not_both served)

@@ -4,12 +4,12 @@ use Rattle.std.proofs.lemmas.List.{length-take-le, length-map, drop-take}
 use Rattle.std.proofs.Math.Seq.{drop-append_seam}
 use Rattle.std.specs.Prelude.{bit_xor}
 use Rattle.mbj_types.specs.Hmac.{padded_key, ipad, opad}
-use Rattle.mbj_hmac.specs.Rounds.{Chaining}
+use Rattle.mbj_hmac.specs.Rounds.{Hashing}
 use Rattle.mbj_hmac.specs.Inside.Layout.{IsStandard, whole_blocks, tail_blocks, message_end, first_ends}
 use Rattle.mbj_hmac.proofs.Numbers.{size_range, tail_range, times_le, split, fill_is}
 use Rattle.mbj_hmac.proofs.Laid.{length-padding}
 
-module _ (h : Chaining) (std : IsStandard h) where
+module _ (h : Hashing) (std : IsStandard h) where
   abbrev b : ℕ
   b = h.block_bytes
 

@@ -9,14 +9,14 @@ use Rattle.mbj_lane.specs.Rounds.{end_of}
 use Rattle.mbj_hmac.specs.declared.form.Form.{Form}
 use Rattle.mbj_hmac.specs.declared.form.Form.TheVariants.{Plain, Keyed, States}
 use Rattle.mbj_hmac.specs.Forms.{counted}
-use Rattle.mbj_hmac.specs.Rounds.{Chaining, HmacState, compression, hashed, padded, padded_in, round, rest_of, started, started_plain, started_states}
+use Rattle.mbj_hmac.specs.Rounds.{Hashing, HmacState, compression, hashed, padded, padded_in, round, rest_of, started, started_plain, started_states}
 use Rattle.mbj_hmac.specs.Inside.Layout.{IsStandard, tail_blocks}
 use Rattle.mbj_hmac.proofs.Numbers.{blocks, rounds_is, split, fill_is}
 use Rattle.mbj_hmac.proofs.RoundEnds.{end_digest, end_hash, end_packet, plain_run_end, states_inner, states_run_end}
 use Rattle.mbj_hmac.proofs.Laid.{bytes_behind, counted_is, length-padding, length-padded}
 use Rattle.mbj_hmac.proofs.Writes.{digest_full}
 
-module _ (h : Chaining) (std : IsStandard h) (a : HashName) where
+module _ (h : Hashing) (std : IsStandard h) (a : HashName) where
   abbrev b : ℕ
   b = h.block_bytes
 

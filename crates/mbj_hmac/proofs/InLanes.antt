@@ -10,7 +10,7 @@ use Rattle.mbj_lane.specs.Rounds.{after}
 use Rattle.mbj_lane.specs.Laws.{after-after}
 use Rattle.mbj_lane.specs.Slots.{IsBusy, IsLeast, IsWritten}
 use Rattle.mbj_lane.proofs.Halfway.{halfway, get_or-halfway, set-halfway}
-use Rattle.mbj_hmac.specs.Rounds.{Chaining, HmacState, compressed_once, block_before, is_turn, outer_rounds, rest_of, round, turned}
+use Rattle.mbj_hmac.specs.Rounds.{Hashing, HmacState, compressed_once, block_before, is_turn, outer_rounds, rest_of, round, turned}
 use Rattle.mbj_hmac.specs.Laws.Tests.{not_both}
 use Rattle.mbj_hmac.specs.Inside.InLanes.{AreReady, AreTied, IsReady, IsTied, blank, entry_in, idle, lowered, most_lanes, moved, never, reach_at, reach_of, seen_at, slot_at, turn_of, with_chains}
 use Rattle.mbj_hmac.specs.Slots.{slot_in, slots_of}
@@ -112,7 +112,7 @@ module _ (rests turns : List ℕ) (es : List HmacState) (tied : AreTied rests tu
   }
 
 -- what is ready stays so, as the entries go on
-pub all_ready : (h : Chaining) (m : ℕ) (starts : ℕ → List ℕ) (bits rests rests' turns : List ℕ) (es : List HmacState) → AreTied rests turns es
+pub all_ready : (h : Hashing) (m : ℕ) (starts : ℕ → List ℕ) (bits rests rests' turns : List ℕ) (es : List HmacState) → AreTied rests turns es
     → ((i : ℕ) → i < most_lanes → lane_at 32 rests' i ≡ lowered m (lane_at 32 rests i)) → AreReady h starts bits rests es
     → AreReady h starts bits rests' (map (moved m) es)
 all_ready h m starts bits rests rests' turns es tied is ready i l busy =
@@ -124,7 +124,7 @@ all_ready h m starts bits rests rests' turns es tied is ready i l busy =
 -- ---- turns
 
 -- if the outer hash's first block isn't next, nothing is turned
-unturned : (h : Chaining) (e : HmacState) → (e.rest ≡ turn_of e → ⊥) → turned h e ≡ e
+unturned : (h : Hashing) (e : HmacState) → (e.rest ≡ turn_of e → ⊥) → turned h e ≡ e
 unturned h e apart = go (is_turn e) refl
   where
     at_turn : (o : ℕ) → (nat_lt 0 o && eqb e.rest o) ≡ true → e.rest ≡ (if nat_lt 0 o then o else never)
@@ -156,7 +156,7 @@ turns_now e few same = elim (cases_lt 0 (outer_rounds e)) [
 ]
 
 -- a busy lane after the turns: it has the start and the hash value in their places, or both as before
-pub lane_turned : (h : Chaining) (r t : ℕ) (c n s : List ℕ) (e : HmacState) → IsTied r t e → r < idle → s ≡ e.start
+pub lane_turned : (h : Hashing) (r t : ℕ) (c n s : List ℕ) (e : HmacState) → IsTied r t e → r < idle → s ≡ e.start
     → with_chains (cond (eqb r t) s c) (cond (eqb r t) c n) e ≡ turned h (with_chains c n e)
 lane_turned h r t c n s e tied busy start =
     let rest : r ≡ e.rest = tied_rest r t e tied busy in
@@ -172,14 +172,14 @@ lane_turned h r t c n s e tied busy start =
 -- ---- blocks
 
 -- a pass advances the hash value of a lane by one block
-pub pass_advanced : (h : Chaining) (d : ℕ) (c n now advanced : List ℕ) (e : HmacState)
+pub pass_advanced : (h : Hashing) (d : ℕ) (c n now advanced : List ℕ) (e : HmacState)
     → now ≡ (after (compressed_once h) d (with_chains c n e)).chain → advanced ≡ h.compress now (block_before h (with_chains now n e) (e.rest - d))
     → advanced ≡ (after (compressed_once h) (d + 1) (with_chains c n e)).chain
 pass_advanced h d c n now advanced e state next =
     next ∙ ap (λ s. h.compress s (block_before h (with_chains c n e) (e.rest - d))) state ∙ sym (chain_next h d (with_chains c n e))
 
 -- an entry goes on by m blocks, with its lane
-pub lane_advanced : (h : Chaining) (m : ℕ) (c n advanced : List ℕ) (e x : HmacState) → advanced ≡ (after (compressed_once h) m (with_chains c n e)).chain → x ≡ moved m e
+pub lane_advanced : (h : Hashing) (m : ℕ) (c n advanced : List ℕ) (e x : HmacState) → advanced ≡ (after (compressed_once h) m (with_chains c n e)).chain → x ≡ moved m e
     → with_chains advanced n x ≡ after (compressed_once h) m (with_chains c n e)
 lane_advanced h m c n advanced e x is move = ap₂ (λ s y. with_chains s n y) is move ∙ sym (after_moved h m (with_chains c n e))
 
@@ -217,7 +217,7 @@ all_left m left first now turns es tied within is rest some i h =
     lane_some m left r0 (lane_at 32 now i) (tied_le r0 (lane_at 32 turns i) (entry_in es i) (tied.tied i h)) within (is i h) (rest i h) some
 
 -- its entry after a stretch by len
-pub advanced_on : (h : Chaining) (m left len : ℕ) (first now turns advanced : HmacState) → left ≤ m → 0 < len → len ≤ left
+pub advanced_on : (h : Hashing) (m left len : ℕ) (first now turns advanced : HmacState) → left ≤ m → 0 < len → len ≤ left
     → now ≡ after (round h) (m - left) first → turns ≡ turned h now → advanced ≡ after (compressed_once h) len turns → len ≤ reach_of now
     → advanced ≡ after (round h) (m - (left - len)) first
 advanced_on h m left zero first now turns advanced within some le is turn blocks reach = absurd (omega arith)
@@ -265,7 +265,7 @@ module _ (rests turns rests' turns' : List ℕ) (es : List HmacState) (i : ℕ) 
   }
 
 -- so is what is ready
-pub ready_set : (h : Chaining) (starts starts' : ℕ → List ℕ) (bits bits' rests rests' turns : List ℕ) (es : List HmacState) (i n : ℕ) (x : HmacState)
+pub ready_set : (h : Hashing) (starts starts' : ℕ → List ℕ) (bits bits' rests rests' turns : List ℕ) (es : List HmacState) (i n : ℕ) (x : HmacState)
     → i < length es → length es ≤ n → AreTied rests turns es
     → ((j : ℕ) → j < most_lanes → (j ≡ i → ⊥) → lane_at 32 rests' j ≡ lane_at 32 rests j)
     → ((j : ℕ) → j < most_lanes → (j ≡ i → ⊥) → lane_at 32 bits' j ≡ lane_at 32 bits j)

@@ -6,7 +6,7 @@ use Rattle.std.specs.Prelude.{bit_xor}
 use Rattle.mbj_types.specs.declared.class.HashName.{HashName}
 use Rattle.mbj_types.specs.Hmac.{Hash, block_key, padded_key, hmac, ipad, opad}
 use Rattle.mbj_types.specs.States.{Compression, block_state, digest_from, hash_from, hmac_from_states, key_states}
-use Rattle.mbj_hmac.specs.Rounds.{Chaining, compression, hashed, padded}
+use Rattle.mbj_hmac.specs.Rounds.{Hashing, compression, hashed, padded}
 use Rattle.mbj_hmac.specs.Inside.Layout.{IsStandard}
 use Rattle.mbj_hmac.proofs.Keys.{length-block_key}
 use Rattle.mbj_hmac.proofs.Numbers.{by_size}
@@ -22,7 +22,7 @@ from_next compress b s block text (suc n) l =
     let place : length block + n * b ≡ suc n * b = omega (arith, l) in
     ap₂ compress (from_next compress b s block text n l) (block_right b (suc n * b) (n * b) block text place)
 
-module _ (h : Chaining) (std : IsStandard h) (a : HashName) (hash : Hash)
+module _ (h : Hashing) (std : IsStandard h) (a : HashName) (hash : Hash)
     (is : (m : List ℕ) → hash.digest m ≡ h.digest a (hashed h a m)) (size : hash.block_bytes ≡ h.block_bytes) where
   abbrev b : ℕ
   b = h.block_bytes

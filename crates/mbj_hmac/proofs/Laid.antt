@@ -7,7 +7,7 @@ use Rattle.mbj_types.specs.declared.class.HashName.{HashName}
 use Rattle.mbj_hmac.specs.declared.form.Form.{Form}
 use Rattle.mbj_hmac.specs.declared.form.Form.TheVariants.{Plain, Keyed, States}
 use Rattle.mbj_hmac.specs.Forms.{counted, has_pads, made_rounds_of, outer_rounds_of}
-use Rattle.mbj_hmac.specs.Rounds.{Chaining, HmacState, padded, message, inner_text, block_before}
+use Rattle.mbj_hmac.specs.Rounds.{Hashing, HmacState, padded, message, inner_text, block_before}
 use Rattle.mbj_hmac.specs.Inside.Layout.{IsStandard, whole_blocks, tail_blocks, fill, seen, IsKept, IsSound}
 use Rattle.mbj_hmac.proofs.Numbers.{size_range, before_range, split, rounds_is, fill_is, fill_on, piece_fill, length-padding_of, tail_range, times_le, blocks}
 use Rattle.mbj_hmac.proofs.Texts.{block_left, block_right, block_take, block_drop, block_range}
@@ -30,7 +30,7 @@ counted_is Keyed b n = omega arith
 counted_is States b n = refl
 
 -- what is sound is kept
-pub kept : (h : Chaining) (ends : List ℕ) (e : HmacState) → IsSound h ends e → IsKept h ends e
+pub kept : (h : Hashing) (ends : List ℕ) (e : HmacState) → IsSound h ends e → IsKept h ends e
 kept h ends e s = ((λ left. s), s.2, s.5, s.4)
 
 -- the rounds of an outer hash are two at most
@@ -39,7 +39,7 @@ outer_few Plain = omega arith
 outer_few Keyed = omega arith
 outer_few States = omega arith
 
-module _ (h : Chaining) (std : IsStandard h) where
+module _ (h : Hashing) (std : IsStandard h) where
   abbrev b : ℕ
   b = h.block_bytes
 

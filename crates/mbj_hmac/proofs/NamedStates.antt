@@ -7,8 +7,8 @@ use Rattle.mbj_types.specs.declared.class.HashName.TheVariants.{Sha1, Sha224, Sh
 use Rattle.mbj_types.specs.Auths.{compression_of_name, hash_of_name}
 use Rattle.mbj_types.specs.Hmac.{block_key, padded_key, hmac}
 use Rattle.mbj_types.specs.States.{hmac_from_states, key_states}
-use Rattle.mbj_hmac.specs.Rounds.{Chaining, compression, hashed}
-use Rattle.mbj_hmac.specs.Chainings.{sha1_chaining, sha256_chaining, sha512_chaining}
+use Rattle.mbj_hmac.specs.Rounds.{Hashing, compression, hashed}
+use Rattle.mbj_hmac.specs.Hashings.{sha1_hashing, sha256_hashing, sha512_hashing}
 use Rattle.mbj_hmac.specs.Inside.Layout.{IsStandard}
 use Rattle.mbj_hmac.specs.Laws.Sha1.{sha1_standard, sha1_blocks, sha1_hashes}
 use Rattle.mbj_hmac.specs.Laws.Sha256.{sha256_standard, sha256_blocks, sha256_hashes}
@@ -17,17 +17,17 @@ use Rattle.mbj_hmac.proofs.KeyStates.{key_hmac, length-key_states}
 use Rattle.mbj_hmac.proofs.Pads.{pad_of}
 
 -- a hash and the lanes that serve it
-record IsServed (h : Chaining) (a : HashName) : Type 0 where
+record IsServed (h : Hashing) (a : HashName) : Type 0 where
   pub is : compression_of_name a ≡ compression h a
   pub size : (hash_of_name a).block_bytes ≡ h.block_bytes
   pub hashes : (m : List ℕ) → (hash_of_name a).digest m ≡ h.digest a (hashed h a m)
 
-by_name : (P : HashName → Type 0) → ((h : Chaining) → IsStandard h → (a : HashName) → IsServed h a → P a) → (a : HashName) → P a
-by_name P p Sha1 = p sha1_chaining sha1_standard Sha1 (record { is = refl; size = sha1_blocks Sha1 refl; hashes = sha1_hashes Sha1 refl })
-by_name P p Sha224 = p sha256_chaining sha256_standard Sha224 (record { is = refl; size = sha256_blocks Sha224 refl; hashes = sha256_hashes Sha224 refl })
-by_name P p Sha256 = p sha256_chaining sha256_standard Sha256 (record { is = refl; size = sha256_blocks Sha256 refl; hashes = sha256_hashes Sha256 refl })
-by_name P p Sha384 = p sha512_chaining sha512_standard Sha384 (record { is = refl; size = sha512_blocks Sha384 refl; hashes = sha512_hashes Sha384 refl })
-by_name P p Sha512 = p sha512_chaining sha512_standard Sha512 (record { is = refl; size = sha512_blocks Sha512 refl; hashes = sha512_hashes Sha512 refl })
+by_name : (P : HashName → Type 0) → ((h : Hashing) → IsStandard h → (a : HashName) → IsServed h a → P a) → (a : HashName) → P a
+by_name P p Sha1 = p sha1_hashing sha1_standard Sha1 (record { is = refl; size = sha1_blocks Sha1 refl; hashes = sha1_hashes Sha1 refl })
+by_name P p Sha224 = p sha256_hashing sha256_standard Sha224 (record { is = refl; size = sha256_blocks Sha224 refl; hashes = sha256_hashes Sha224 refl })
+by_name P p Sha256 = p sha256_hashing sha256_standard Sha256 (record { is = refl; size = sha256_blocks Sha256 refl; hashes = sha256_hashes Sha256 refl })
+by_name P p Sha384 = p sha512_hashing sha512_standard Sha384 (record { is = refl; size = sha512_blocks Sha384 refl; hashes = sha512_hashes Sha384 refl })
+by_name P p Sha512 = p sha512_hashing sha512_standard Sha512 (record { is = refl; size = sha512_blocks Sha512 refl; hashes = sha512_hashes Sha512 refl })
 
 -- the block of a key with a pad
 pub named_pad : (a : HashName) (key x : List ℕ) (pad n : ℕ) → x ≡ block_key (hash_of_name a) key ++ replicate n 0

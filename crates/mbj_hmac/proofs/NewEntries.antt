@@ -8,14 +8,14 @@ use Rattle.mbj_types.specs.Rounds.{hash_rounds, hmac_rounds, states_rounds}
 use Rattle.mbj_hmac.specs.declared.form.Form.{Form}
 use Rattle.mbj_hmac.specs.declared.form.Form.TheVariants.{Plain, Keyed, States}
 use Rattle.mbj_hmac.specs.Forms.{counted}
-use Rattle.mbj_hmac.specs.Rounds.{Chaining, padded, padded_in, started, started_plain, started_states}
+use Rattle.mbj_hmac.specs.Rounds.{Hashing, padded, padded_in, started, started_plain, started_states}
 use Rattle.mbj_hmac.specs.Inside.Layout.{IsStandard, whole_blocks, tail_blocks, message_end, first_ends, seen, IsKept}
 use Rattle.mbj_hmac.proofs.Numbers.{times_le, split}
 use Rattle.mbj_hmac.proofs.Laid.{bytes_behind, counted_is, kept}
 use Rattle.mbj_hmac.proofs.Texts.{block_right, block_take}
 use Rattle.mbj_hmac.proofs.FirstEnds.{text_end, length-message_end}
 
-module _ (h : Chaining) (std : IsStandard h) (packet : List ℕ) (off len : ℕ) where
+module _ (h : Hashing) (std : IsStandard h) (packet : List ℕ) (off len : ℕ) where
   abbrev b : ℕ
   b = h.block_bytes
 

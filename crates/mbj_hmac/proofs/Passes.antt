@@ -7,12 +7,12 @@ use Rattle.mbj_lane.specs.Laws.{rest-after}
 use Rattle.mbj_lane.proofs.Advanced.{after-one_more}
 use Rattle.mbj_hmac.specs.declared.form.Form.{Form}
 use Rattle.mbj_hmac.specs.Forms.{outer_rounds_of}
-use Rattle.mbj_hmac.specs.Rounds.{Chaining, HmacState, block_before, compressed_once, is_turn, outer_rounds, turned, round, rest_of}
+use Rattle.mbj_hmac.specs.Rounds.{Hashing, HmacState, block_before, compressed_once, is_turn, outer_rounds, turned, round, rest_of}
 use Rattle.mbj_hmac.specs.Inside.InLanes.{reach_at, reach_of}
 use Rattle.mbj_hmac.specs.Laws.Falls.{falls}
 use Rattle.mbj_hmac.specs.Laws.Tests.{not_both}
 
-module _ (h : Chaining) where
+module _ (h : Hashing) where
   -- blocks change the hash value and the rest alone
   pub after_moved : (d : ℕ) (e : HmacState) → after (compressed_once h) d e ≡ record e { chain = (after (compressed_once h) d e).chain; rest = e.rest - d }
   after_moved zero e = let z : e.rest - 0 ≡ e.rest = omega arith in ap (λ n. record e { rest = n }) (sym z)
@@ -41,7 +41,7 @@ second : (x y : Bool) → (x && y) ≡ true → y ≡ true
 second true y q = q
 second false y q = absurd (not_both q)
 
-module _ (h : Chaining) where
+module _ (h : Hashing) where
   -- an entry where the outer hash's first block isn't next isn't turned
   unturned : (e : HmacState) → (e.rest ≡ outer_rounds e → ⊥) → turned h e ≡ e
   unturned e apart = go (is_turn e) refl

@@ -9,7 +9,7 @@ use Rattle.mbj_hmac.specs.declared.form.Form.TheVariants.{Plain, Keyed, States}
 use Rattle.mbj_hmac.specs.declared.places.Places.{Places}
 use Rattle.mbj_hmac.specs.declared.places.TheConstants.{BLANK_BYTES}
 use Rattle.mbj_hmac.specs.Forms.{made_rounds_of, outer_rounds_of}
-use Rattle.mbj_hmac.specs.Rounds.{Chaining, HmacState}
+use Rattle.mbj_hmac.specs.Rounds.{Hashing, HmacState}
 use Rattle.mbj_hmac.specs.Inside.InLanes.{block_in}
 use Rattle.mbj_hmac.specs.Inside.Layout.{IsKept, IsPlaced, IsStandard, IsSound, is_in_packet, place_at, seen, tail_blocks, whole_blocks}
 use Rattle.mbj_hmac.proofs.Numbers.{size_range, split, tail_range, times_le}
@@ -21,7 +21,7 @@ made_few Plain = omega arith
 made_few Keyed = omega arith
 made_few States = omega arith
 
-module _ (h : Chaining) (std : IsStandard h) (packet chain inner start : List ℕ) (a : HashName) (form : Form) (ends : List ℕ) (rest off len : ℕ) (p : Places)
+module _ (h : Hashing) (std : IsStandard h) (packet chain inner start : List ℕ) (a : HashName) (form : Form) (ends : List ℕ) (rest off len : ℕ) (p : Places)
     (k : IsKept h ends (seen h packet rest chain inner start a form ends off len)) (at : IsPlaced h.block_bytes form len p) (done : ℕ) where
   abbrev b : ℕ
   b = h.block_bytes

@@ -10,7 +10,7 @@ use Rattle.mbj_lane.proofs.Advanced.{after-one_more}
 use Rattle.mbj_hmac.specs.declared.form.Form.{Form}
 use Rattle.mbj_hmac.specs.declared.form.Form.TheVariants.{Plain, Keyed, States}
 use Rattle.mbj_hmac.specs.Forms.{outer_rounds_of}
-use Rattle.mbj_hmac.specs.Rounds.{Chaining, HmacState, padded, padded_in, block_at, chained, hashed, rest_of, round, started, started_plain, started_states}
+use Rattle.mbj_hmac.specs.Rounds.{Hashing, HmacState, padded, padded_in, block_at, chained, hashed, rest_of, round, started, started_plain, started_states}
 
 two : (k : ℕ) → k + 1 + 1 ≡ k + 2
 two k = omega arith
@@ -21,7 +21,7 @@ unturned Plain k r e = refl
 unturned Keyed k r e = let no : eqb (suc k + 2) 2 ≡ false = search rules in ap (λ n. eqb n 2) e ∙ no
 unturned States k r e = let no : eqb (suc k + 1) 1 ≡ false = search rules in ap (λ n. eqb n 1) e ∙ no
 
-module _ (h : Chaining) (a : HashName) (form : Form) (start front back packet : List ℕ) (off len : ℕ) where
+module _ (h : Hashing) (a : HashName) (form : Form) (start front back packet : List ℕ) (off len : ℕ) where
   -- the entry with a rest and hash values
   abbrev at : ℕ → List ℕ → List ℕ → HmacState
   at rest chain inner = record {
@@ -71,7 +71,7 @@ module _ (h : Chaining) (a : HashName) (form : Form) (start front back packet : 
       ap (after (round h) k) (inner_step k n r (from s n) i e is) ∙ inner_run s k (suc n) (k + o) i e' refl
 
 -- an HMAC under a key
-module _ (h : Chaining) (a : HashName) (front back packet : List ℕ) (off len : ℕ) where
+module _ (h : Hashing) (a : HashName) (front back packet : List ℕ) (off len : ℕ) where
   abbrev state : ℕ → List ℕ → List ℕ → HmacState
   state = at h a Keyed (h.initial a) front back packet off len
 
@@ -107,7 +107,7 @@ module _ (h : Chaining) (a : HashName) (front back packet : List ℕ) (off len :
   end_packet r = ap (λ (e : HmacState). e.packet) (run_end r)
 
 -- a digest: its end has the hash value of the message
-module _ (h : Chaining) (a : HashName) (packet : List ℕ) (off len : ℕ) where
+module _ (h : Hashing) (a : HashName) (packet : List ℕ) (off len : ℕ) where
   abbrev digest_blocks : ℕ
   digest_blocks = length (padded h (take len (drop off packet))) / h.block_bytes
 
@@ -118,7 +118,7 @@ module _ (h : Chaining) (a : HashName) (packet : List ℕ) (off len : ℕ) where
       ∙ inner_run h a Plain (replicate h.words 0) [] [] packet off len (h.initial a) digest_blocks 0 digest_blocks (replicate h.words 0) (omega arith) (omega arith)
 
 -- an HMAC from states: its end has the hash value to which the block of the inner digest leads from the outer state
-module _ (h : Chaining) (a : HashName) (inner outer packet : List ℕ) (off len : ℕ) where
+module _ (h : Hashing) (a : HashName) (inner outer packet : List ℕ) (off len : ℕ) where
   abbrev behind : List ℕ
   behind = padded_in h States (take len (drop off packet))
 

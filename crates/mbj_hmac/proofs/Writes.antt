@@ -4,7 +4,7 @@ use Rattle.std.proofs.lemmas.List.{append_assoc, length-replicate}
 use Rattle.std.specs.Prelude.{replicate}
 use Rattle.std.specs.Int.{w64, to_be_bytes}
 use Rattle.mbj_types.specs.declared.class.HashName.{HashName}
-use Rattle.mbj_hmac.specs.Rounds.{Chaining}
+use Rattle.mbj_hmac.specs.Rounds.{Hashing}
 use Rattle.mbj_hmac.specs.Inside.Layout.{IsStandard, fill}
 use Rattle.mbj_hmac.proofs.Numbers.{before_range, fill_on, piece_fill, size_range, length-padding_of}
 use Rattle.mbj_hmac.proofs.Laid.{length-padding}
@@ -16,7 +16,7 @@ behind xs ys zs x y at next e first second =
     let sum : at + length (x ++ y) ≡ next + length y = omega (arith, length-append x y) in
     ap (λ n. take n zs) sum ∙ second ∙ ap (λ n. take n ys ++ y) e ∙ ap (λ l. l ++ y) first ∙ append_assoc (take at xs) x y
 
-module _ (h : Chaining) (std : IsStandard h) where
+module _ (h : Hashing) (std : IsStandard h) where
   abbrev b : ℕ
   b = h.block_bytes
 

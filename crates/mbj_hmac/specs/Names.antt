@@ -5,7 +5,7 @@ use Rattle.mbj_types.specs.declared.class.AuthClass.TheVariants as class
 use Rattle.mbj_types.specs.declared.class.HashName.{HashName}
 use Rattle.mbj_types.specs.declared.job.Auth.{Auth}
 use Rattle.mbj_types.specs.Auths.{class_of}
-use Rattle.mbj_hmac.specs.Rounds.{Chaining}
+use Rattle.mbj_hmac.specs.Rounds.{Hashing}
 
 -- the other authentications have none
 abbrev pub name_in : AuthClass → Option HashName
@@ -22,7 +22,7 @@ abbrev pub name_of : Auth → Option HashName
 name_of a = name_in (class_of a)
 
 -- an authentication is the HMAC of a hash that is served
-abbrev pub serves_class : Chaining → AuthClass → Bool
+abbrev pub serves_class : Hashing → AuthClass → Bool
 serves_class h class.Null = false
 serves_class h (class.Hmac n) = h.serves n
 serves_class h (class.Cmac k) = false
@@ -32,7 +32,7 @@ serves_class h (class.Plain n) = false
 serves_class h class.Gmac = false
 serves_class h (class.States n) = false
 
-abbrev pub serves_auth : Chaining → Auth → Bool
+abbrev pub serves_auth : Hashing → Auth → Bool
 serves_auth h a = serves_class h (class_of a)
 
 -- ---- digests
@@ -51,7 +51,7 @@ abbrev pub plain_name_of : Auth → Option HashName
 plain_name_of a = plain_name_in (class_of a)
 
 -- an authentication is the digest of a hash that is served
-abbrev pub serves_plain_class : Chaining → AuthClass → Bool
+abbrev pub serves_plain_class : Hashing → AuthClass → Bool
 serves_plain_class h class.Null = false
 serves_plain_class h (class.Hmac n) = false
 serves_plain_class h (class.Cmac k) = false
@@ -61,7 +61,7 @@ serves_plain_class h (class.Plain n) = h.serves n
 serves_plain_class h class.Gmac = false
 serves_plain_class h (class.States n) = false
 
-abbrev pub serves_plain : Chaining → Auth → Bool
+abbrev pub serves_plain : Hashing → Auth → Bool
 serves_plain h a = serves_plain_class h (class_of a)
 
 -- ---- HMACs from states
@@ -80,7 +80,7 @@ abbrev pub states_name_of : Auth → Option HashName
 states_name_of a = states_name_in (class_of a)
 
 -- an authentication is the HMAC from states of a hash that is served
-abbrev pub serves_states_class : Chaining → AuthClass → Bool
+abbrev pub serves_states_class : Hashing → AuthClass → Bool
 serves_states_class h class.Null = false
 serves_states_class h (class.Hmac n) = false
 serves_states_class h (class.Cmac k) = false
@@ -90,14 +90,14 @@ serves_states_class h (class.Plain n) = false
 serves_states_class h class.Gmac = false
 serves_states_class h (class.States n) = h.serves n
 
-abbrev pub serves_states : Chaining → Auth → Bool
+abbrev pub serves_states : Hashing → Auth → Bool
 serves_states h a = serves_states_class h (class_of a)
 
 -- ---- all
 
 -- an authentication is done in the lanes: the HMAC, the digest, or the HMAC from states of a hash that is served
-abbrev pub serves_lanes_class : Chaining → AuthClass → Bool
+abbrev pub serves_lanes_class : Hashing → AuthClass → Bool
 serves_lanes_class h a = serves_class h a || (serves_plain_class h a || serves_states_class h a)
 
-abbrev pub serves_lanes : Chaining → Auth → Bool
+abbrev pub serves_lanes : Hashing → Auth → Bool
 serves_lanes h a = serves_lanes_class h (class_of a)

@@ -12,7 +12,7 @@ use Rattle.mbj_hmac.specs.Forms.{counted, outer_rounds_of}
 -- message of this many bytes, the compression of a block into a hash value, and how many words a hash value has; by the hash the
 -- initial hash value and the digest that a hash value gives; and of a stored state how many bytes it has, the bytes of a hash value,
 -- and the hash value that such bytes hold
-pub record Chaining : Type 0 where
+pub record Hashing : Type 0 where
   pub serves : HashName → Bool
   pub block_bytes : ℕ
   pub padding : ℕ → List ℕ
@@ -25,7 +25,7 @@ pub record Chaining : Type 0 where
   pub loaded : List ℕ → List ℕ
 
 -- one of these hashes
-abbrev pub compression : Chaining → HashName → Compression
+abbrev pub compression : Hashing → HashName → Compression
 compression h a = record {
   block_bytes = h.block_bytes;
   initial = h.initial a;
@@ -68,7 +68,7 @@ outer_rounds e = outer_rounds_of e.form
 abbrev pub is_turn : HmacState → Bool
 is_turn e = nat_lt 0 (outer_rounds e) && e.rest == outer_rounds e
 
-module _ (h : Chaining) where
+module _ (h : Hashing) where
   -- a message and its padding
   abbrev pub padded : List ℕ → List ℕ
   padded m = m ++ h.padding (length m)

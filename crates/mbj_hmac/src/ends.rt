@@ -26,7 +26,7 @@ const PADDING: [u8; 144] = [
 #[inline(always)]
 pub(crate) fn tail_blocks<H: LaneHash>(len: usize) -> usize
     requires { len < 2 ^ 32 }
-    ensures { result ≡ tail_blocks H.chaining.block_bytes len }
+    ensures { result ≡ tail_blocks H.hashing.block_bytes len }
 {
     let block = H::block_bytes();
     (len + block / 8) / block + 1 - len / block
@@ -36,7 +36,7 @@ pub(crate) fn tail_blocks<H: LaneHash>(len: usize) -> usize
 #[inline(always)]
 fn whole_bytes<H: LaneHash>(len: usize) -> usize
     requires { len < 2 ^ 32 }
-    ensures value { result ≡ H.chaining.block_bytes * (len / H.chaining.block_bytes) }
+    ensures value { result ≡ H.hashing.block_bytes * (len / H.hashing.block_bytes) }
     ensures within { result ≤ len }
 {
     let block = H::block_bytes();
@@ -46,7 +46,7 @@ fn whole_bytes<H: LaneHash>(len: usize) -> usize
 /// The rounds of a digest of a message: one for each block of the padded message.
 pub(crate) fn plain_rounds<H: LaneHash>(len: usize) -> u32
     requires { len < 2 ^ 32 }
-    ensures value { result ≡ hash_rounds H.chaining.block_bytes len }
+    ensures value { result ≡ hash_rounds H.hashing.block_bytes len }
     ensures few { result < 2 ^ 31 }
 {
     let block = H::block_bytes();
@@ -56,7 +56,7 @@ pub(crate) fn plain_rounds<H: LaneHash>(len: usize) -> u32
 /// The rounds of an HMAC over a message: that of the inner pad, those of the message, and those of the outer hash.
 pub(crate) fn rounds<H: LaneHash>(len: usize) -> u32
     requires { len < 2 ^ 32 }
-    ensures { result ≡ hmac_rounds H.chaining.block_bytes len }
+    ensures { result ≡ hmac_rounds H.hashing.block_bytes len }
 {
     1 + plain_rounds::<H>(len) + Form::Keyed.outer_rounds()
 }
@@ -64,7 +64,7 @@ pub(crate) fn rounds<H: LaneHash>(len: usize) -> u32
 /// The rounds of an HMAC from states over a message: those of the message, and that of the outer hash.
 pub(crate) fn states_rounds<H: LaneHash>(len: usize) -> u32
     requires { len < 2 ^ 32 }
-    ensures { result ≡ states_rounds H.chaining.block_bytes len }
+    ensures { result ≡ states_rounds H.hashing.block_bytes len }
 {
     plain_rounds::<H>(len) + Form::States.outer_rounds()
 }
@@ -72,7 +72,7 @@ pub(crate) fn states_rounds<H: LaneHash>(len: usize) -> u32
 /// The zero bytes of a message's padding, up to its last 8 bytes.
 fn fill<H: LaneHash>(len: usize) -> usize
     requires { len < 2 ^ 32 }
-    ensures value { result ≡ fill H.chaining.block_bytes len }
+    ensures value { result ≡ fill H.hashing.block_bytes len }
     ensures within { result < 144 }
 {
     let block = H::block_bytes();
@@ -101,12 +101,12 @@ pub(crate) fn put(ends: &mut [u8], at: usize, bytes: &[u8]) -> usize
 /// Writes the padding behind a message of `len` bytes. Before the message `before` bytes are hashed: a block of a pad, or none.
 fn put_padding<H: LaneHash>(ends: &mut H::Ends, at: usize, before: usize, len: usize) -> usize
     requires small { len < 2 ^ 32 }
-    requires before { (before ≡ 0) ⊎ (before ≡ H.chaining.block_bytes) }
-    requires room { at + length (H.chaining.padding (before + len)) ≤ 4 * H.chaining.block_bytes }
-    ensures next { result ≡ at + length (H.chaining.padding (before + len)) }
-    ensures written { take (at + length (H.chaining.padding (before + len))) (H.ends_bytes ends.new)
-        ≡ take at (H.ends_bytes ends.old) ++ H.chaining.padding (before + len) }
-    ensures len { length (H.ends_bytes ends.new) ≡ 4 * H.chaining.block_bytes }
+    requires before { (before ≡ 0) ⊎ (before ≡ H.hashing.block_bytes) }
+    requires room { at + length (H.hashing.padding (before + len)) ≤ 4 * H.hashing.block_bytes }
+    ensures next { result ≡ at + length (H.hashing.padding (before + len)) }
+    ensures written { take (at + length (H.hashing.padding (before + len))) (H.ends_bytes ends.new)
+        ≡ take at (H.ends_bytes ends.old) ++ H.hashing.padding (before + len) }
+    ensures len { length (H.ends_bytes ends.new) ≡ 4 * H.hashing.block_bytes }
 {
     let bits = (8 * (before + len) as u64).to_be_bytes();
     let at = H::put(ends, at, padding_start(fill::<H>(len)));
@@ -123,12 +123,12 @@ fn put_end<H: LaneHash>(
     len: usize,
 ) -> usize
     requires small { len < 2 ^ 32 }
-    requires before { (before ≡ 0) ⊎ (before ≡ H.chaining.block_bytes) }
+    requires before { (before ≡ 0) ⊎ (before ≡ H.hashing.block_bytes) }
     requires range { off + len ≤ length packet.now }
-    ensures next { result ≡ H.chaining.block_bytes * (tail_blocks H.chaining.block_bytes len + 1) }
-    ensures written { take (H.chaining.block_bytes * (tail_blocks H.chaining.block_bytes len + 1)) (H.ends_bytes ends.new)
-        ≡ take H.chaining.block_bytes (H.ends_bytes ends.old) ++ message_end H.chaining before packet.now off len }
-    ensures len { length (H.ends_bytes ends.new) ≡ 4 * H.chaining.block_bytes }
+    ensures next { result ≡ H.hashing.block_bytes * (tail_blocks H.hashing.block_bytes len + 1) }
+    ensures written { take (H.hashing.block_bytes * (tail_blocks H.hashing.block_bytes len + 1)) (H.ends_bytes ends.new)
+        ≡ take H.hashing.block_bytes (H.ends_bytes ends.old) ++ message_end H.hashing before packet.now off len }
+    ensures len { length (H.ends_bytes ends.new) ≡ 4 * H.hashing.block_bytes }
 {
     let at = H::put(
         ends,
@@ -148,10 +148,10 @@ pub(crate) fn put_first_ends<H: LaneHash>(
 )
     requires small { len < 2 ^ 32 }
     requires range { off + len ≤ length packet.now }
-    ensures value { take (H.chaining.block_bytes * (tail_blocks H.chaining.block_bytes len + 2)) (H.ends_bytes ends.new)
-        ≡ first_ends H.chaining (take H.chaining.block_bytes (padded_key ipad key.now)) (take H.chaining.block_bytes (padded_key opad key.now))
+    ensures value { take (H.hashing.block_bytes * (tail_blocks H.hashing.block_bytes len + 2)) (H.ends_bytes ends.new)
+        ≡ first_ends H.hashing (take H.hashing.block_bytes (padded_key ipad key.now)) (take H.hashing.block_bytes (padded_key opad key.now))
         packet.now off len }
-    ensures length { length (H.ends_bytes ends.new) ≡ 4 * H.chaining.block_bytes }
+    ensures length { length (H.ends_bytes ends.new) ≡ 4 * H.hashing.block_bytes }
     ensures pads { length key.now ≡ MAX_BLOCK_BYTES }
 {
     let block = H::block_bytes();
@@ -164,10 +164,10 @@ pub(crate) fn put_first_ends<H: LaneHash>(
 pub(crate) fn put_plain_ends<H: LaneHash>(ends: &mut H::Ends, packet: &[u8], off: usize, len: usize)
     requires small { len < 2 ^ 32 }
     requires range { off + len ≤ length packet.now }
-    requires whole { length (H.ends_bytes ends.old) ≡ 4 * H.chaining.block_bytes }
-    ensures value { take (H.chaining.block_bytes * tail_blocks H.chaining.block_bytes len) (drop H.chaining.block_bytes (H.ends_bytes ends.new))
-        ≡ message_end H.chaining 0 packet.now off len }
-    ensures length { length (H.ends_bytes ends.new) ≡ 4 * H.chaining.block_bytes }
+    requires whole { length (H.ends_bytes ends.old) ≡ 4 * H.hashing.block_bytes }
+    ensures value { take (H.hashing.block_bytes * tail_blocks H.hashing.block_bytes len) (drop H.hashing.block_bytes (H.ends_bytes ends.new))
+        ≡ message_end H.hashing 0 packet.now off len }
+    ensures length { length (H.ends_bytes ends.new) ≡ 4 * H.hashing.block_bytes }
 {
     put_end::<H>(ends, 0, packet, off, len);
 }
@@ -182,10 +182,10 @@ pub(crate) fn put_states_ends<H: LaneHash>(
 )
     requires small { len < 2 ^ 32 }
     requires range { off + len ≤ length packet.now }
-    requires whole { length (H.ends_bytes ends.old) ≡ 4 * H.chaining.block_bytes }
-    ensures value { take (H.chaining.block_bytes * tail_blocks H.chaining.block_bytes len) (drop H.chaining.block_bytes (H.ends_bytes ends.new))
-        ≡ message_end H.chaining H.chaining.block_bytes packet.now off len }
-    ensures length { length (H.ends_bytes ends.new) ≡ 4 * H.chaining.block_bytes }
+    requires whole { length (H.ends_bytes ends.old) ≡ 4 * H.hashing.block_bytes }
+    ensures value { take (H.hashing.block_bytes * tail_blocks H.hashing.block_bytes len) (drop H.hashing.block_bytes (H.ends_bytes ends.new))
+        ≡ message_end H.hashing H.hashing.block_bytes packet.now off len }
+    ensures length { length (H.ends_bytes ends.new) ≡ 4 * H.hashing.block_bytes }
 {
     put_end::<H>(ends, H::block_bytes(), packet, off, len);
 }

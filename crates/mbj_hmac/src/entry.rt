@@ -53,11 +53,11 @@ impl<H: LaneHash> Model for HmacEntry<H> {
 
     ghost Value = { HmacState };
 
-    ghost view = { λ e. seen H.chaining e.packet.items e.rest (H.words e.chain) (H.words e.inner) (H.words e.start) e.hash e.form (H.ends_bytes e.ends) e.off e.len };
+    ghost view = { λ e. seen H.hashing e.packet.items e.rest (H.words e.chain) (H.words e.inner) (H.words e.start) e.hash e.form (H.ends_bytes e.ends) e.off e.len };
 
-    ghost invariant = { λ e. IsKept H.chaining (H.ends_bytes e.ends)
-        (seen H.chaining e.packet.items e.rest (H.words e.chain) (H.words e.inner) (H.words e.start) e.hash e.form (H.ends_bytes e.ends) e.off e.len)
-        × IsPlaced H.chaining.block_bytes e.form e.len e.places };
+    ghost invariant = { λ e. IsKept H.hashing (H.ends_bytes e.ends)
+        (seen H.hashing e.packet.items e.rest (H.words e.chain) (H.words e.inner) (H.words e.start) e.hash e.form (H.ends_bytes e.ends) e.off e.len)
+        × IsPlaced H.hashing.block_bytes e.form e.len e.places };
 }
 
 impl<H: LaneHash> HmacEntry<H> {
@@ -87,14 +87,14 @@ impl<H: LaneHash> HmacEntry<H> {
     // Called and not inlined, it writes the entry in its place, which saves copies of it.
     #[inline(never)]
     pub fn new(auth: Auth, key: &[u8], packet: Vec<u8>, off: u32, len: u32) -> HmacEntry<H>
-        requires auth { IsTrue (serves_auth H.chaining auth) }
+        requires auth { IsTrue (serves_auth H.hashing auth) }
         requires range { off + len ≤ length packet.items }
-        ensures start { IfSome (name_of auth) (λ a. result ≡ started H.chaining a (padded_key ipad (block_key (hash_of_name a) key.now))
+        ensures start { IfSome (name_of auth) (λ a. result ≡ started H.hashing a (padded_key ipad (block_key (hash_of_name a) key.now))
             (padded_key opad (block_key (hash_of_name a) key.now)) packet.items off len) }
-        ensures rest { result.rest ≡ hmac_rounds H.chaining.block_bytes len }
-        ensures packet { (end_of (round H.chaining) rest_of result).packet ≡ packet.items }
-        ensures tag { let end = end_of (round H.chaining) rest_of result in
-            IfSome (hash_of auth) (λ h. H.chaining.digest end.hash end.chain ≡ hmac h key.now (take len (drop off packet.items))) }
+        ensures rest { result.rest ≡ hmac_rounds H.hashing.block_bytes len }
+        ensures packet { (end_of (round H.hashing) rest_of result).packet ≡ packet.items }
+        ensures tag { let end = end_of (round H.hashing) rest_of result in
+            IfSome (hash_of auth) (λ h. H.hashing.digest end.hash end.chain ≡ hmac h key.now (take len (drop off packet.items))) }
     {
         let mut entry = HmacEntry::blank(*packet.allocator());
         entry.refill(auth, key, packet, off, len);
@@ -108,13 +108,13 @@ impl<H: LaneHash> HmacEntry<H> {
     // Called and not inlined, as `new`.
     #[inline(never)]
     pub fn new_plain(auth: Auth, packet: Vec<u8>, off: u32, len: u32) -> HmacEntry<H>
-        requires auth { IsTrue (serves_plain H.chaining auth) }
+        requires auth { IsTrue (serves_plain H.hashing auth) }
         requires range { off + len ≤ length packet.items }
-        ensures start { IfSome (plain_name_of auth) (λ a. result ≡ started_plain H.chaining a packet.items off len) }
-        ensures rest { result.rest ≡ hash_rounds H.chaining.block_bytes len }
-        ensures packet { (end_of (round H.chaining) rest_of result).packet ≡ packet.items }
-        ensures digest { let end = end_of (round H.chaining) rest_of result in
-            IfSome (plain_hash_of auth) (λ h. H.chaining.digest end.hash end.chain ≡ h.digest (take len (drop off packet.items))) }
+        ensures start { IfSome (plain_name_of auth) (λ a. result ≡ started_plain H.hashing a packet.items off len) }
+        ensures rest { result.rest ≡ hash_rounds H.hashing.block_bytes len }
+        ensures packet { (end_of (round H.hashing) rest_of result).packet ≡ packet.items }
+        ensures digest { let end = end_of (round H.hashing) rest_of result in
+            IfSome (plain_hash_of auth) (λ h. H.hashing.digest end.hash end.chain ≡ h.digest (take len (drop off packet.items))) }
     {
         let mut entry = HmacEntry::blank(*packet.allocator());
         entry.refill(auth, &[], packet, off, len);
@@ -135,15 +135,15 @@ impl<H: LaneHash> HmacEntry<H> {
         off: u32,
         len: u32,
     ) -> HmacEntry<H>
-        requires auth { IsTrue (serves_states H.chaining auth) }
+        requires auth { IsTrue (serves_states H.hashing auth) }
         requires states { IfSome (states_hash_of auth) (λ c. length states.now ≡ 2 * c.state_bytes) }
         requires range { off + len ≤ length packet.items }
         ensures start { IfSome (states_name_of auth) (λ a. let c = compression_of_name a in
-            result ≡ started_states H.chaining a (c.loaded (take c.state_bytes states.now)) (c.loaded (drop c.state_bytes states.now)) packet.items off len) }
-        ensures rest { result.rest ≡ states_rounds H.chaining.block_bytes len }
-        ensures packet { (end_of (round H.chaining) rest_of result).packet ≡ packet.items }
-        ensures tag { let end = end_of (round H.chaining) rest_of result in
-            IfSome (states_hash_of auth) (λ c. H.chaining.digest end.hash end.chain ≡ hmac_from_states c states.now (take len (drop off packet.items))) }
+            result ≡ started_states H.hashing a (c.loaded (take c.state_bytes states.now)) (c.loaded (drop c.state_bytes states.now)) packet.items off len) }
+        ensures rest { result.rest ≡ states_rounds H.hashing.block_bytes len }
+        ensures packet { (end_of (round H.hashing) rest_of result).packet ≡ packet.items }
+        ensures tag { let end = end_of (round H.hashing) rest_of result in
+            IfSome (states_hash_of auth) (λ c. H.hashing.digest end.hash end.chain ≡ hmac_from_states c states.now (take len (drop off packet.items))) }
     {
         let mut entry = HmacEntry::blank(*packet.allocator());
         entry.refill(auth, states, packet, off, len);
@@ -154,10 +154,10 @@ impl<H: LaneHash> HmacEntry<H> {
     /// authentication is one that the kernel serves. The key is that of an HMAC, or the two states of one from states; a digest looks at
     /// none. The range lies in the packet, which moves into the entry. What the entry was is not looked at.
     pub(crate) fn refill(&mut self, auth: Auth, key: &[u8], packet: Vec<u8>, off: u32, len: u32)
-        requires serves { IsTrue (serves_lanes H.chaining auth) }
+        requires serves { IsTrue (serves_lanes H.hashing auth) }
         requires states { IfSome (states_hash_of auth) (λ c. length key.now ≡ 2 * c.state_bytes) }
         requires range { off + len ≤ length packet.items }
-        ensures { self.new ≡ begun H.chaining (class_of auth) key.now packet.items off len }
+        ensures { self.new ≡ begun H.hashing (class_of auth) key.now packet.items off len }
     {
         match auth.class() {
             AuthClass::Hmac(hash) => {
@@ -186,10 +186,10 @@ impl<H: LaneHash> HmacEntry<H> {
         off: u32,
         len: u32,
     )
-        requires serves { IsTrue (H.chaining.serves hash) }
+        requires serves { IsTrue (H.hashing.serves hash) }
         requires range { off + len ≤ length packet.items }
-        ensures start { self.new ≡ started H.chaining hash (take H.chaining.block_bytes (padded_key ipad key.now))
-            (take H.chaining.block_bytes (padded_key opad key.now)) packet.items off len }
+        ensures start { self.new ≡ started H.hashing hash (take H.hashing.block_bytes (padded_key ipad key.now))
+            (take H.hashing.block_bytes (padded_key opad key.now)) packet.items off len }
         ensures pads { length key.now ≡ MAX_BLOCK_BYTES }
     {
         let bytes = len as usize;
@@ -208,9 +208,9 @@ impl<H: LaneHash> HmacEntry<H> {
 
     /// Becomes a digest of which nothing is done, by its hash.
     fn start_plain(&mut self, hash: HashName, packet: Vec<u8>, off: u32, len: u32)
-        requires serves { IsTrue (H.chaining.serves hash) }
+        requires serves { IsTrue (H.hashing.serves hash) }
         requires range { off + len ≤ length packet.items }
-        ensures { self.new ≡ started_plain H.chaining hash packet.items off len }
+        ensures { self.new ≡ started_plain H.hashing hash packet.items off len }
     {
         let bytes = len as usize;
         put_plain_ends::<H>(&mut self.ends, &packet, off as usize, bytes);
@@ -236,9 +236,9 @@ impl<H: LaneHash> HmacEntry<H> {
         off: u32,
         len: u32,
     )
-        requires serves { IsTrue (H.chaining.serves hash) }
+        requires serves { IsTrue (H.hashing.serves hash) }
         requires range { off + len ≤ length packet.items }
-        ensures { self.new ≡ started_states H.chaining hash (H.words inner) (H.words outer) packet.items off len }
+        ensures { self.new ≡ started_states H.hashing hash (H.words inner) (H.words outer) packet.items off len }
     {
         let bytes = len as usize;
         put_states_ends::<H>(&mut self.ends, &packet, off as usize, bytes);
@@ -258,7 +258,7 @@ impl<H: LaneHash> HmacEntry<H> {
     pub fn into_parts(self) -> (Vec<u8>, Tag)
         requires { self.rest ≡ 0 }
         ensures packet { result.0.items ≡ self.packet }
-        ensures tag { result.1 ≡ H.chaining.digest self.hash self.chain }
+        ensures tag { result.1 ≡ H.hashing.digest self.hash self.chain }
     {
         let tag = H::digest(self.hash, &self.chain);
         (self.packet, tag)
@@ -267,8 +267,8 @@ impl<H: LaneHash> HmacEntry<H> {
     /// The block of the round after `done` others, or one of zeros if it is made in the vectors of the lanes or no round is left.
     #[inline(always)]
     pub(crate) fn block(&self, done: u32) -> &[u8]
-        ensures block { result.now ≡ block_in H.chaining self.now done }
-        ensures length { length result.now ≡ H.chaining.block_bytes }
+        ensures block { result.now ≡ block_in H.hashing self.now done }
+        ensures length { length result.now ≡ H.hashing.block_bytes }
     {
         let block = H::block_bytes();
         let rest = self.rest.saturating_sub(done);
@@ -312,7 +312,7 @@ impl<H: LaneHash> HmacEntry<H> {
     /// How many bits the block of the inner digest counts: those of a block and of the digest.
     #[inline(always)]
     pub(crate) fn digest_bits(&self) -> u32
-        ensures { HasDigest H.chaining result self.now }
+        ensures { HasDigest H.hashing result self.now }
     {
         H::digest_bits(self.hash)
     }
@@ -362,7 +362,7 @@ impl<H: LaneHash> HmacEntry<H> {
     pub(crate) fn end_parts(&mut self, chain: &H::Chain) -> (Vec<u8>, Tag)
         requires { self.old.rest ≡ 0 }
         ensures packet { result.0.items ≡ self.old.packet }
-        ensures tag { result.1 ≡ H.chaining.digest self.old.hash (H.words chain.now) }
+        ensures tag { result.1 ≡ H.hashing.digest self.old.hash (H.words chain.now) }
         ensures rest { self.new.rest ≡ 0 }
     {
         let alloc = *self.packet.allocator();

@@ -20,7 +20,7 @@ impl<H: LaneHash> Kernel for HmacKernel<H> {
 
     ghost rest_of = { rest_of };
 
-    ghost round = { round H.chaining };
+    ghost round = { round H.hashing };
 
     fn rest(entry: &HmacEntry<H>) -> u32 {
         entry.rest
@@ -41,5 +41,5 @@ impl<H: LaneHash> Kernel for HmacKernel<H> {
 
     ghost few = { H.few };
 
-    ghost falls = { falls H.chaining };
+    ghost falls = { falls H.hashing };
 }

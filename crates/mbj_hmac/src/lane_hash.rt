@@ -3,7 +3,7 @@ ghost use Rattle.mbj_types.specs.Auths.{compression_of_name, hash_of_name};
 ghost use Rattle.mbj_types.specs.declared.class.HashName.{HashName};
 ghost use Rattle.mbj_types.specs.Lanes.{lane_at};
 ghost use Rattle.mbj_sha_lanes.specs.Halves.{IsWithin};
-ghost use Rattle.mbj_hmac.specs.Rounds.{Chaining, compression, hashed};
+ghost use Rattle.mbj_hmac.specs.Rounds.{Hashing, compression, hashed};
 ghost use Rattle.mbj_hmac.specs.Inside.InLanes.{IsDigestBits, most_lanes};
 ghost use Rattle.mbj_hmac.specs.Inside.Layout.{IsStandard, digest_block};
 
@@ -32,7 +32,7 @@ pub trait LaneHash {
     ghost LANES: { ℕ };
 
     /// How the hashes work.
-    ghost chaining: { Chaining };
+    ghost hashing: { Hashing };
 
     /// The words of a hash value.
     ghost words: { Self.Chain → List ℕ };
@@ -45,24 +45,24 @@ pub trait LaneHash {
 
     /// The length of a block, in bytes.
     fn block_bytes() -> usize
-        ensures { result ≡ chaining.block_bytes };
+        ensures { result ≡ hashing.block_bytes };
 
     /// One of the hashes that are served.
     fn served() -> HashName
-        ensures { IsTrue (chaining.serves result) };
+        ensures { IsTrue (hashing.serves result) };
 
     /// The initial hash value of a hash that is served.
     fn initial(hash: HashName) -> Self::Chain
-        requires { IsTrue (chaining.serves hash) }
-        ensures { words result ≡ chaining.initial hash };
+        requires { IsTrue (hashing.serves hash) }
+        ensures { words result ≡ hashing.initial hash };
 
     /// A hash value of zeros.
     fn zeros() -> Self::Chain
-        ensures { words result ≡ replicate chaining.words 0 };
+        ensures { words result ≡ replicate hashing.words 0 };
 
     /// Four blocks, whose bytes are not looked at.
     fn blank_ends() -> Self::Ends
-        ensures { length (ends_bytes result) ≡ 4 * chaining.block_bytes };
+        ensures { length (ends_bytes result) ≡ 4 * hashing.block_bytes };
 
     /// Lends the bytes of an entry's blocks.
     fn ends(ends: &Self::Ends) -> &[u8]
@@ -70,30 +70,30 @@ pub trait LaneHash {
 
     /// Writes bytes, and returns the place behind them. What stands behind is not looked at.
     fn put(ends: &mut Self::Ends, at: usize, bytes: &[u8]) -> usize
-        requires { at + length bytes.now ≤ 4 * chaining.block_bytes }
+        requires { at + length bytes.now ≤ 4 * hashing.block_bytes }
         ensures next { result ≡ at + length bytes.now }
         ensures written { take (at + length bytes.now) (ends_bytes ends.new) ≡ take at (ends_bytes ends.old) ++ bytes.now }
-        ensures len { length (ends_bytes ends.new) ≡ 4 * chaining.block_bytes };
+        ensures len { length (ends_bytes ends.new) ≡ 4 * hashing.block_bytes };
 
     /// The digest that a hash value gives, of a hash that is served.
     fn digest(hash: HashName, chain: &Self::Chain) -> Tag
-        requires { IsTrue (chaining.serves hash) }
-        ensures { result ≡ chaining.digest hash (words chain.now) };
+        requires { IsTrue (hashing.serves hash) }
+        ensures { result ≡ hashing.digest hash (words chain.now) };
 
     /// The bits of a block and of a digest behind it, of a hash that is served.
     fn digest_bits(hash: HashName) -> u32
-        requires { IsTrue (chaining.serves hash) }
-        ensures { IsDigestBits chaining hash result };
+        requires { IsTrue (hashing.serves hash) }
+        ensures { IsDigestBits hashing hash result };
 
     /// The hash value that a stored state holds.
     fn load(state: &[u8]) -> Self::Chain
-        requires { length state.now ≡ chaining.state_bytes }
-        ensures { words result ≡ chaining.loaded state.now };
+        requires { length state.now ≡ hashing.state_bytes }
+        ensures { words result ≡ hashing.loaded state.now };
 
     /// Stores a hash value, whole.
     fn store(state: &mut [u8], chain: &Self::Chain)
-        requires { length state.old ≡ chaining.state_bytes }
-        ensures { state.new ≡ chaining.stored (words chain.now) };
+        requires { length state.old ≡ hashing.state_bytes }
+        ensures { state.new ≡ hashing.stored (words chain.now) };
 
     /// The hash values as vectors, that of each lane.
     fn gathered<C: Chains<Self::Chain>>(chains: &C) -> Self::States
@@ -117,10 +117,10 @@ pub trait LaneHash {
         blocks: &B,
         half: Option<Half>,
     )
-        requires size { B.block_bytes ≡ chaining.block_bytes }
+        requires size { B.block_bytes ≡ hashing.block_bytes }
         requires lent { (i : ℕ) → i < LANES → B.lends blocks.now i }
         ensures { (i : ℕ) → i < LANES → IsWithin half i
-            → lane states.new i ≡ chaining.compress (lane states.old i) (B.block blocks.now i) };
+            → lane states.new i ≡ hashing.compress (lane states.old i) (B.block blocks.now i) };
 
     /// Compresses into the hash value of each lane, or of each in the half that is named, the block that holds the digest of its inner
     /// hash value, with the padding behind a block and the digest. A lane's word of `bits` says how many bits these two have. What the
@@ -132,8 +132,8 @@ pub trait LaneHash {
         bits: u32x16,
         half: Option<Half>,
     )
-        ensures { (i : ℕ) → i < LANES → IsWithin half i → (a : HashName) → IsTrue (chaining.serves a) → IsDigestBits chaining a (lane_at 32 bits i)
-            → lane states.new i ≡ chaining.compress (lane states.old i) (digest_block chaining a (lane inner.now i)) };
+        ensures { (i : ℕ) → i < LANES → IsWithin half i → (a : HashName) → IsTrue (hashing.serves a) → IsDigestBits hashing a (lane_at 32 bits i)
+            → lane states.new i ≡ hashing.compress (lane states.old i) (digest_block hashing a (lane inner.now i)) };
 
     /// Compresses such a block if a lane's word of `counts` is the number `last`, and else the lane's block of those that are lent.
     fn compress_mixed<B: Blocks>(
@@ -146,13 +146,13 @@ pub trait LaneHash {
         counts: u32x16,
         last: u32,
     )
-        requires size { B.block_bytes ≡ chaining.block_bytes }
+        requires size { B.block_bytes ≡ hashing.block_bytes }
         requires lent { (i : ℕ) → i < LANES → B.lends blocks.now i }
         ensures digests { (i : ℕ) → i < LANES → IsWithin half i → lane_at 32 counts i ≡ last
-            → (a : HashName) → IsTrue (chaining.serves a) → IsDigestBits chaining a (lane_at 32 bits i)
-            → lane states.new i ≡ chaining.compress (lane states.old i) (digest_block chaining a (lane inner.now i)) }
+            → (a : HashName) → IsTrue (hashing.serves a) → IsDigestBits hashing a (lane_at 32 bits i)
+            → lane states.new i ≡ hashing.compress (lane states.old i) (digest_block hashing a (lane inner.now i)) }
         ensures blocks { (i : ℕ) → i < LANES → IsWithin half i → (lane_at 32 counts i ≡ last → ⊥)
-            → lane states.new i ≡ chaining.compress (lane states.old i) (B.block blocks.now i) };
+            → lane states.new i ≡ hashing.compress (lane states.old i) (B.block blocks.now i) };
 
     /// In each lane in which `lefts` and `turns` have the same number the hash value becomes the inner one, and that of `starts` takes its
     /// place.
@@ -187,15 +187,15 @@ pub trait LaneHash {
     ghost narrow: { LANES ≤ most_lanes };
 
     /// Padding, digests and stored states are as FIPS 180-4 has them.
-    ghost standard: { IsStandard chaining };
+    ghost standard: { IsStandard hashing };
 
     /// The hashes have these blocks.
-    ghost blocks: { (a : HashName) → IsTrue (chaining.serves a) → (hash_of_name a).block_bytes ≡ chaining.block_bytes };
+    ghost blocks: { (a : HashName) → IsTrue (hashing.serves a) → (hash_of_name a).block_bytes ≡ hashing.block_bytes };
 
     /// The hashes go on by blocks in this way.
-    ghost compressions: { (a : HashName) → IsTrue (chaining.serves a) → compression_of_name a ≡ compression chaining a };
+    ghost compressions: { (a : HashName) → IsTrue (hashing.serves a) → compression_of_name a ≡ compression hashing a };
 
     /// A hash is the digest of the hash value to which the blocks lead.
-    ghost hashes: { (a : HashName) → IsTrue (chaining.serves a)
-        → (m : List ℕ) → (hash_of_name a).digest m ≡ chaining.digest a (hashed chaining a m) };
+    ghost hashes: { (a : HashName) → IsTrue (hashing.serves a)
+        → (m : List ℕ) → (hash_of_name a).digest m ≡ hashing.digest a (hashed hashing a m) };
 }

@@ -72,7 +72,7 @@ impl<H: LaneHash> HmacLanes<H> {
         ensures few { entry.now.rest < idle }
         ensures chain { H.lane self.new.states i ≡ entry.now.chain }
         ensures inner { H.lane self.new.inner i ≡ entry.now.inner }
-        ensures ready { IsReady H.chaining (H.lane self.new.starts i) (lane_at 32 self.new.rests.bits i) entry.now }
+        ensures ready { IsReady H.hashing (H.lane self.new.starts i) (lane_at 32 self.new.rests.bits i) entry.now }
         ensures rests { (j : ℕ) → j < most_lanes → (j ≡ i → ⊥) → lane_at 32 self.new.rests.left j ≡ lane_at 32 self.old.rests.left j }
         ensures turns { (j : ℕ) → j < most_lanes → (j ≡ i → ⊥) → lane_at 32 self.new.rests.turns j ≡ lane_at 32 self.old.rests.turns j }
         ensures bits { (j : ℕ) → j < most_lanes → (j ≡ i → ⊥) → lane_at 32 self.new.rests.bits j ≡ lane_at 32 self.old.rests.bits j }
@@ -130,14 +130,14 @@ impl<H: LaneHash> HmacLanes<H> {
     fn stretch(&mut self, entries: &mut [HmacEntry<H>], m: u32, schedule: &mut H::Schedule)
         requires few { length entries.old ≤ H.LANES }
         requires tied { AreTied self.old.rests.left self.old.rests.turns entries.old }
-        requires ready { AreReady H.chaining (H.lane self.old.starts) self.old.rests.bits self.old.rests.left entries.old }
+        requires ready { AreReady H.hashing (H.lane self.old.starts) self.old.rests.bits self.old.rests.left entries.old }
         requires some { 0 < m }
         requires rests { (i : ℕ) → i < most_lanes → lane_at 32 self.old.rests.left i < idle → m ≤ lane_at 32 self.old.rests.left i }
         ensures advanced { (i : ℕ) → i < most_lanes → lane_at 32 self.old.rests.left i < idle
             → seen_at (H.lane self.new.states) (H.lane self.new.inner) entries.new i
-            ≡ after (compressed_once H.chaining) m (seen_at (H.lane self.old.states) (H.lane self.old.inner) entries.old i) }
+            ≡ after (compressed_once H.hashing) m (seen_at (H.lane self.old.states) (H.lane self.old.inner) entries.old i) }
         ensures tied { AreTied self.new.rests.left self.new.rests.turns entries.new }
-        ensures ready { AreReady H.chaining (H.lane self.new.starts) self.new.rests.bits self.new.rests.left entries.new }
+        ensures ready { AreReady H.hashing (H.lane self.new.starts) self.new.rests.bits self.new.rests.left entries.new }
         ensures rests { (i : ℕ) → i < most_lanes → lane_at 32 self.new.rests.left i ≡ lowered m (lane_at 32 self.old.rests.left i) }
     {
         let half = busy_half(self.rests.left);
@@ -169,13 +169,13 @@ impl<H: LaneHash> HmacLanes<H> {
     pub(crate) fn run(&mut self, entries: &mut [HmacEntry<H>], m: u32)
         requires few { length entries.old ≤ H.LANES }
         requires tied { AreTied self.old.rests.left self.old.rests.turns entries.old }
-        requires ready { AreReady H.chaining (H.lane self.old.starts) self.old.rests.bits self.old.rests.left entries.old }
+        requires ready { AreReady H.hashing (H.lane self.old.starts) self.old.rests.bits self.old.rests.left entries.old }
         requires rests { (i : ℕ) → i < most_lanes → lane_at 32 self.old.rests.left i < idle → m ≤ lane_at 32 self.old.rests.left i }
         ensures advanced { (i : ℕ) → i < most_lanes → lane_at 32 self.old.rests.left i < idle
             → seen_at (H.lane self.new.states) (H.lane self.new.inner) entries.new i
-            ≡ after (round H.chaining) m (seen_at (H.lane self.old.states) (H.lane self.old.inner) entries.old i) }
+            ≡ after (round H.hashing) m (seen_at (H.lane self.old.states) (H.lane self.old.inner) entries.old i) }
         ensures tied { AreTied self.new.rests.left self.new.rests.turns entries.new }
-        ensures ready { AreReady H.chaining (H.lane self.new.starts) self.new.rests.bits self.new.rests.left entries.new }
+        ensures ready { AreReady H.hashing (H.lane self.new.starts) self.new.rests.bits self.new.rests.left entries.new }
         ensures rests { (i : ℕ) → i < most_lanes → lane_at 32 self.new.rests.left i ≡ lowered m (lane_at 32 self.old.rests.left i) }
     {
         let mut schedule = H::blank_schedule();
@@ -192,7 +192,7 @@ impl<H: LaneHash> HmacLanes<H> {
     pub(crate) fn of(entries: &[HmacEntry<H>]) -> HmacLanes<H>
         requires { length entries.now ≤ H.LANES }
         ensures tied { AreTied result.rests.left result.rests.turns entries.now }
-        ensures ready { AreReady H.chaining (H.lane result.starts) result.rests.bits result.rests.left entries.now }
+        ensures ready { AreReady H.hashing (H.lane result.starts) result.rests.bits result.rests.left entries.now }
         ensures rests { (i : ℕ) → i < length entries.now → lane_at 32 result.rests.left i < idle }
         ensures chains { (i : ℕ) → i < length entries.now → H.lane result.states i ≡ (entry_in entries.now i).chain }
         ensures inners { (i : ℕ) → i < length entries.now → H.lane result.inner i ≡ (entry_in entries.now i).inner }

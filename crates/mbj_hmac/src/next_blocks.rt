@@ -29,12 +29,12 @@ fn pass<H: LaneHash>(
     requires few { done < never }
     requires tied { AreTied rests.now.left rests.now.turns entries.now }
     requires digests { (i : ℕ) → i < most_lanes → lane_at 32 rests.now.left i < idle
-        → HasDigest H.chaining (lane_at 32 rests.now.bits i) (entry_in entries.now i) }
+        → HasDigest H.hashing (lane_at 32 rests.now.bits i) (entry_in entries.now i) }
     requires half { (i : ℕ) → i < H.LANES → lane_at 32 rests.now.left i < idle → IsWithin half i }
     requires rests { (i : ℕ) → i < most_lanes → lane_at 32 rests.now.left i < idle → done < lane_at 32 rests.now.left i }
     ensures { (i : ℕ) → i < H.LANES → lane_at 32 rests.now.left i < idle → H.lane states.new i
-        ≡ H.chaining.compress (H.lane states.old i)
-        (block_before H.chaining (seen_at (H.lane states.old) (H.lane inner.now) entries.now i) ((entry_in entries.now i).rest - done)) }
+        ≡ H.hashing.compress (H.lane states.old i)
+        (block_before H.hashing (seen_at (H.lane states.old) (H.lane inner.now) entries.now i) ((entry_in entries.now i).rest - done)) }
 {
     let counts = outer_left(rests.left, rests.turns);
     let last = done + 1;
@@ -62,11 +62,11 @@ pub(crate) fn compressed<H: LaneHash>(
 )
     requires tied { AreTied rests.now.left rests.now.turns entries.now }
     requires digests { (i : ℕ) → i < most_lanes → lane_at 32 rests.now.left i < idle
-        → HasDigest H.chaining (lane_at 32 rests.now.bits i) (entry_in entries.now i) }
+        → HasDigest H.hashing (lane_at 32 rests.now.bits i) (entry_in entries.now i) }
     requires half { (i : ℕ) → i < H.LANES → lane_at 32 rests.now.left i < idle → IsWithin half i }
     requires rests { (i : ℕ) → i < most_lanes → lane_at 32 rests.now.left i < idle → m ≤ lane_at 32 rests.now.left i }
     ensures { (i : ℕ) → i < H.LANES → lane_at 32 rests.now.left i < idle
-        → H.lane states.new i ≡ (after (compressed_once H.chaining) m (seen_at (H.lane states.old) (H.lane inner.now) entries.now i)).chain }
+        → H.lane states.new i ≡ (after (compressed_once H.hashing) m (seen_at (H.lane states.old) (H.lane inner.now) entries.now i)).chain }
 {
     'passes: for done in 0..m {
         pass::<H>(entries, done, half, rests, inner, states, schedule);

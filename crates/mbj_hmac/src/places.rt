@@ -27,7 +27,7 @@ impl Places {
     #[inline(always)]
     pub(crate) fn of<H: LaneHash>(form: Form, len: usize) -> Places
         requires { len < 2 ^ 32 }
-        ensures { IsPlaced H.chaining.block_bytes form len result }
+        ensures { IsPlaced H.hashing.block_bytes form len result }
     {
         let behind = tail_blocks::<H>(len) as u32 + form.outer_rounds();
         let whole = (len / H::block_bytes()) as u32;
@@ -114,8 +114,8 @@ pub(crate) fn blank_blocks() -> &'static [u8]
 /// A block of zeros.
 #[inline(always)]
 pub(crate) fn blank_block<H: LaneHash>() -> &'static [u8]
-    ensures block { result.now ≡ replicate H.chaining.block_bytes 0 }
-    ensures length { length result.now ≡ H.chaining.block_bytes }
+    ensures block { result.now ≡ replicate H.hashing.block_bytes 0 }
+    ensures length { length result.now ≡ H.hashing.block_bytes }
 {
     &BLANK[..H::block_bytes()]
 }

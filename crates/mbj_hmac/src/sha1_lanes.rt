@@ -5,7 +5,7 @@ ghost use Rattle.mbj_types.specs.declared.class.HashName.{HashName};
 ghost use Rattle.mbj_types.specs.declared.kind.TheConstants.{SHA1_LANES};
 ghost use Rattle.mbj_sha_lanes.specs.Halves.{IsWithin, first_of};
 ghost use Rattle.mbj_sha_lanes.specs.Words.{words32};
-ghost use Rattle.mbj_hmac.specs.Chainings.{is_sha1, sha1_chaining};
+ghost use Rattle.mbj_hmac.specs.Hashings.{is_sha1, sha1_hashing};
 ghost use Rattle.mbj_hmac.specs.Inside.InLanes.{IsDigestBits};
 ghost use Rattle.mbj_hmac.specs.Inside.Layout.{digest_block};
 
@@ -79,8 +79,8 @@ fn compress_words(states: &mut [Sha1Word; 5], words: &mut [Sha1Word; 16], half: 
 /// The words of the blocks that hold the digests of hash values, with the padding behind a block and the digest (FIPS 180-4, 5.1.1).
 #[inline(always)]
 fn digest_words(inner: &[Sha1Word; 5], bits: u32x16) -> [Sha1Word; 16]
-    ensures lanes { (i : ℕ) → i < SHA1_LANES → (a : HashName) → IsTrue (is_sha1 a) → IsDigestBits sha1_chaining a (lane_at 32 bits i)
-        → words32 (digest_block sha1_chaining a (lane_of (lane_at 32) inner.now i)) ≡ lane_of (lane_at 32) result i }
+    ensures lanes { (i : ℕ) → i < SHA1_LANES → (a : HashName) → IsTrue (is_sha1 a) → IsDigestBits sha1_hashing a (lane_at 32 bits i)
+        → words32 (digest_block sha1_hashing a (lane_of (lane_at 32) inner.now i)) ≡ lane_of (lane_at 32) result i }
     ensures length { length result ≡ 16 }
 {
     let one = Sha1Word::splat(0x8000_0000);
@@ -105,7 +105,7 @@ impl LaneHash for Sha1Lanes {
 
     ghost LANES = { SHA1_LANES };
 
-    ghost chaining = { sha1_chaining };
+    ghost hashing = { sha1_hashing };
 
     ghost words = { λ c. c };
 

@@ -5,7 +5,7 @@ ghost use Rattle.mbj_types.specs.declared.class.HashName.{HashName};
 ghost use Rattle.mbj_types.specs.declared.kind.TheConstants.{SHA256_LANES};
 ghost use Rattle.mbj_sha_lanes.specs.Halves.{IsWithin, first_of};
 ghost use Rattle.mbj_sha_lanes.specs.Words.{words32};
-ghost use Rattle.mbj_hmac.specs.Chainings.{is_sha256, sha256_chaining};
+ghost use Rattle.mbj_hmac.specs.Hashings.{is_sha256, sha256_hashing};
 ghost use Rattle.mbj_hmac.specs.Inside.InLanes.{IsDigestBits};
 ghost use Rattle.mbj_hmac.specs.Inside.Layout.{digest_block};
 
@@ -102,8 +102,8 @@ fn compress_words(
 /// digest of SHA-224 is a word shorter than one of SHA-256.
 #[inline(always)]
 fn digest_words(inner: &[Sha256Word; 8], bits: u32x16) -> [Sha256Word; 16]
-    ensures lanes { (i : ℕ) → i < SHA256_LANES → (a : HashName) → IsTrue (is_sha256 a) → IsDigestBits sha256_chaining a (lane_at 32 bits i)
-        → words32 (digest_block sha256_chaining a (lane_of (lane_at 32) inner.now i)) ≡ lane_of (lane_at 32) result i }
+    ensures lanes { (i : ℕ) → i < SHA256_LANES → (a : HashName) → IsTrue (is_sha256 a) → IsDigestBits sha256_hashing a (lane_at 32 bits i)
+        → words32 (digest_block sha256_hashing a (lane_of (lane_at 32) inner.now i)) ≡ lane_of (lane_at 32) result i }
     ensures length { length result ≡ 16 }
 {
     let full = Sha256Word::splat(BITS_256);
@@ -130,7 +130,7 @@ impl LaneHash for Sha256Lanes {
 
     ghost LANES = { SHA256_LANES };
 
-    ghost chaining = { sha256_chaining };
+    ghost hashing = { sha256_hashing };
 
     ghost words = { λ c. c };
 

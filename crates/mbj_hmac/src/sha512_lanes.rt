@@ -5,7 +5,7 @@ ghost use Rattle.mbj_types.specs.Lanes.{lane_at, lane_of};
 ghost use Rattle.mbj_types.specs.declared.class.HashName.{HashName};
 ghost use Rattle.mbj_types.specs.declared.kind.TheConstants.{SHA512_LANES};
 ghost use Rattle.mbj_sha_lanes.specs.Words.{words64};
-ghost use Rattle.mbj_hmac.specs.Chainings.{is_sha512, sha512_chaining};
+ghost use Rattle.mbj_hmac.specs.Hashings.{is_sha512, sha512_hashing};
 ghost use Rattle.mbj_hmac.specs.Inside.InLanes.{IsDigestBits};
 ghost use Rattle.mbj_hmac.specs.Inside.Layout.{digest_block};
 
@@ -84,8 +84,8 @@ fn bytes_of(chain: &[u64; 8]) -> [u8; 64]
 /// digest of SHA-384 is two words shorter than one of SHA-512.
 #[inline(always)]
 fn digest_words(inner: &[Sha512Word; 8], bits: u32x16) -> [Sha512Word; 16]
-    ensures lanes { (i : ℕ) → i < SHA512_LANES → (a : HashName) → IsTrue (is_sha512 a) → IsDigestBits sha512_chaining a (lane_at 32 bits i)
-        → words64 (digest_block sha512_chaining a (lane_of (lane_at 64) inner.now i)) ≡ lane_of (lane_at 64) result i }
+    ensures lanes { (i : ℕ) → i < SHA512_LANES → (a : HashName) → IsTrue (is_sha512 a) → IsDigestBits sha512_hashing a (lane_at 32 bits i)
+        → words64 (digest_block sha512_hashing a (lane_of (lane_at 64) inner.now i)) ≡ lane_of (lane_at 64) result i }
     ensures length { length result ≡ 16 }
 {
     let bits = Sha512Word::of_numbers(bits);
@@ -114,7 +114,7 @@ impl LaneHash for Sha512Lanes {
 
     ghost LANES = { SHA512_LANES };
 
-    ghost chaining = { sha512_chaining };
+    ghost hashing = { sha512_hashing };
 
     ghost words = { λ c. c };
 

@@ -36,7 +36,7 @@ impl<H: LaneHash> Model for HmacSlots<H> {
     ghost view = { λ s. slots_of H.LANES (slot_at (H.lane s.lanes.states) (H.lane s.lanes.inner) s.lanes.rests.left s.entries.items) };
 
     ghost invariant = { λ s. AreTied s.lanes.rests.left s.lanes.rests.turns s.entries.items × (length s.entries.items ≡ H.LANES)
-        × AreReady H.chaining (H.lane s.lanes.starts) s.lanes.rests.bits s.lanes.rests.left s.entries.items };
+        × AreReady H.hashing (H.lane s.lanes.starts) s.lanes.rests.bits s.lanes.rests.left s.entries.items };
 }
 
 impl<H: LaneHash> HmacSlots<H> {
@@ -48,11 +48,11 @@ impl<H: LaneHash> HmacSlots<H> {
     #[inline(always)]
     pub fn put_job(&mut self, i: usize, auth: Auth, key: &[u8], packet: Vec<u8>, off: u32, len: u32)
         requires lane { i < H.LANES }
-        requires serves { IsTrue (serves_lanes H.chaining auth) }
+        requires serves { IsTrue (serves_lanes H.hashing auth) }
         requires states { IfSome (states_hash_of auth) (λ c. length key.now ≡ 2 * c.state_bytes) }
         requires range { off + len ≤ length packet.items }
-        ensures put { IsWritten H.LANES i (Some (begun H.chaining (class_of auth) key.now packet.items off len)) (slot_in self.old) (slot_in self.new) }
-        ensures begins { Begins H.chaining (class_of auth) key.now packet.items off len (begun H.chaining (class_of auth) key.now packet.items off len) }
+        ensures put { IsWritten H.LANES i (Some (begun H.hashing (class_of auth) key.now packet.items off len)) (slot_in self.old) (slot_in self.new) }
+        ensures begins { Begins H.hashing (class_of auth) key.now packet.items off len (begun H.hashing (class_of auth) key.now packet.items off len) }
     {
         let entry = &mut self.entries[i];
         entry.refill(auth, key, packet, off, len);
@@ -66,7 +66,7 @@ impl<H: LaneHash> HmacSlots<H> {
         requires busy { IsBusy (slot_in self.old) i }
         requires done { (e : HmacState) → slot_in self.old i ≡ Some e → e.rest ≡ 0 }
         ensures packet { (e : HmacState) → slot_in self.old i ≡ Some e → result.0.items ≡ e.packet }
-        ensures tag { (e : HmacState) → slot_in self.old i ≡ Some e → result.1 ≡ H.chaining.digest e.hash e.chain }
+        ensures tag { (e : HmacState) → slot_in self.old i ≡ Some e → result.1 ≡ H.hashing.digest e.hash e.chain }
         ensures idle { IsWritten H.LANES i None (slot_in self.old) (slot_in self.new) }
     {
         self.lanes.leave(i);

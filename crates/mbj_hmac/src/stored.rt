@@ -25,9 +25,9 @@ struct EachLane<'a, H: LaneHash> {
 }
 
 impl<'a, H: LaneHash> Blocks for EachLane<'a, H> {
-    ghost block_bytes = { H.chaining.block_bytes };
+    ghost block_bytes = { H.hashing.block_bytes };
 
-    ghost lends = { λ v i. length v.block.now ≡ H.chaining.block_bytes };
+    ghost lends = { λ v i. length v.block.now ≡ H.hashing.block_bytes };
 
     ghost block = { λ v i. v.block.now };
 
@@ -50,7 +50,7 @@ impl<'a, H: LaneHash> Chains<H::Chain> for EachLane<'a, H> {
 
 /// Stores the state behind one block, which is compressed in each lane of one half.
 fn store_state<H: LaneHash>(hash: HashName, block: &[u8], state: &mut [u8])
-    requires serves { IsTrue (H.chaining.serves hash) }
+    requires serves { IsTrue (H.hashing.serves hash) }
     requires block { length block.now ≡ (hash_of_name hash).block_bytes }
     requires state { length state.old ≡ (compression_of_name hash).state_bytes }
     ensures { state.new ≡ block_state (compression_of_name hash) block.now }

@@ -48,11 +48,11 @@ pub(crate) fn inner_of<H: LaneHash>(entry: &HmacEntry<H>) -> &H::Chain
 }
 
 impl<'a, H: LaneHash> Blocks for LaneEntries<'a, H> {
-    ghost block_bytes = { H.chaining.block_bytes };
+    ghost block_bytes = { H.hashing.block_bytes };
 
     ghost lends = { λ v i. Unit {0} };
 
-    ghost block = { λ v i. block_in H.chaining (entry_in v.entries.now i) v.done };
+    ghost block = { λ v i. block_in H.hashing (entry_in v.entries.now i) v.done };
 
     #[inline(always)]
     fn block(&self, i: usize) -> &[u8] {

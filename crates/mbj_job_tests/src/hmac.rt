@@ -103,15 +103,15 @@ fn a_key_is_padded_to_its_block(rt: HostRuntime) {
 pub(crate) trait Serving: LaneHash {
     /// Whether it is the HMAC of a hash that is served.
     fn takes(auth: Auth) -> bool
-        ensures { result ≡ serves_auth Self.chaining auth };
+        ensures { result ≡ serves_auth Self.hashing auth };
 
     /// Whether it is the digest of a hash that is served.
     fn takes_plain(auth: Auth) -> bool
-        ensures { result ≡ serves_plain Self.chaining auth };
+        ensures { result ≡ serves_plain Self.hashing auth };
 
     /// Whether it is the HMAC from states of a hash that is served.
     fn takes_states(auth: Auth) -> bool
-        ensures { result ≡ serves_states Self.chaining auth };
+        ensures { result ≡ serves_states Self.hashing auth };
 }
 
 impl Serving for Sha1Lanes {

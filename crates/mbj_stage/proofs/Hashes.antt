@@ -14,7 +14,7 @@ use Rattle.mbj_types.specs.declared.class.HashName.{HashName}
 use Rattle.mbj_types.specs.declared.job.Job.{Job}
 use Rattle.mbj_hmac.specs.Names.{serves_class, serves_plain_class, serves_states_class, serves_lanes_class}
 use Rattle.mbj_hmac.specs.Begun.{value_of}
-use Rattle.mbj_hmac.specs.Rounds.{Chaining}
+use Rattle.mbj_hmac.specs.Rounds.{Hashing}
 use Rattle.mbj_stage.specs.declared.stage.Stage.TheVariants as stage
 use Rattle.mbj_stage.specs.Steps.{auth_stage_by}
 
@@ -26,7 +26,7 @@ either-right : (x y : Bool) → x || y ≡ true → x ≡ false → y ≡ true
 either-right true y t f = absurd (cc)
 either-right false y t f = t
 
-module _ (h : Chaining) (a : AuthClass) where
+module _ (h : Hashing) (a : AuthClass) where
   -- the digest or the HMAC from states of a hash that is served
   abbrev others : AuthClass → Bool
   others c = serves_plain_class h c || serves_states_class h c
@@ -51,7 +51,7 @@ auth-some a b n =
     (λ _. cond_both (is_from_states a) (states_rounds b n) (hmac_rounds b n) (λ r. 1 ≤ r) (λ _. omega arith) (λ _. omega arith))
 
 -- what is served is done in lanes
-pub hash-in-lanes : (h : Chaining) (a : AuthClass) → IsTrue (serves_lanes_class h a) → auth_stage_by a ≢ stage.Now
+pub hash-in-lanes : (h : Hashing) (a : AuthClass) → IsTrue (serves_lanes_class h a) → auth_stage_by a ≢ stage.Now
 hash-in-lanes h class.Null t e = absurd (cc)
 hash-in-lanes h (class.Hmac hash) t e = cc
 hash-in-lanes h (class.Cmac key) t e = absurd (cc)
@@ -99,7 +99,7 @@ served-length (class.Plain n) len t = tt
 served-length class.Gmac len t = tt
 served-length (class.States n) len t = eqb-true len (2 * (compression_of_name n).state_bytes) t
 
-module _ (h : Chaining) where
+module _ (h : Hashing) where
   -- it has a range that is hashed
   pub served-range : (a : AuthClass) → IsTrue (serves_lanes_class h a) → has_hash_range a ≡ true
   served-range class.Null t = absurd (cc)

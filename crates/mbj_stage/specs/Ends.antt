@@ -19,18 +19,18 @@ abbrev pub cmac_end : Cmac.CmacState → End
 cmac_end e = record { packet = e.packet; mac = e.chain; iv = []; aad = [] }
 
 -- a digest, and a whole HMAC, is the digest of the hash value
-abbrev pub hmac_end : Hmac.Chaining → Hmac.HmacState → End
+abbrev pub hmac_end : Hmac.Hashing → Hmac.HmacState → End
 hmac_end h e = record { packet = e.packet; mac = h.digest e.hash e.chain; iv = []; aad = [] }
 
 -- the digest or HMAC of a job over a packet, of which nothing is done
-abbrev pub begun_over : Hmac.Chaining → Job → List ℕ → Hmac.HmacState
+abbrev pub begun_over : Hmac.Hashing → Job → List ℕ → Hmac.HmacState
 begun_over h j p = begun h (class_of j.auth) j.auth_key p j.hash_off j.hash_len
 
 abbrev pub ccm_end : Ccm.CcmState → End
 ccm_end e = record { packet = e.packet; mac = e.chain; iv = e.iv; aad = e.aad }
 
 -- this entry of a digest or an HMAC goes out of the course old
-pub record GoesOut (h : Hmac.Chaining) (e : Hmac.HmacState) (new old : CourseState) : Type 0 where
+pub record GoesOut (h : Hmac.Hashing) (e : Hmac.HmacState) (new old : CourseState) : Type 0 where
   pub rest_is : e.rest ≡ auth_rounds (class_of old.job.auth) h.block_bytes old.job.hash_len
   pub some : 1 ≤ e.rest
   pub owed_is : owed_with (hmac_end h (end_of (Hmac.round h) Hmac.rest_of e)) new ≡ owed old

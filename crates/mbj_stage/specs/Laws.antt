@@ -10,7 +10,7 @@ use Rattle.mbj_types.specs.declared.class.HashName.TheVariants.{Sha1, Sha224, Sh
 use Rattle.mbj_types.specs.declared.kind.TheConstants.{AES_LANES}
 use Rattle.mbj_types.specs.declared.kind.Kind.{Kind}
 use Rattle.mbj_types.specs.declared.kind.Kind.TheVariants as kind
-use Rattle.mbj_hmac.specs.Chainings.{sha1_chaining, sha256_chaining, sha512_chaining}
+use Rattle.mbj_hmac.specs.Hashings.{sha1_hashing, sha256_hashing, sha512_hashing}
 use Rattle.mbj_hmac.specs.Names.{serves_lanes_class}
 use Rattle.mbj_stage.specs.declared.stage.Stage.TheVariants as stage
 use Rattle.mbj_stage.specs.Steps.{auth_stage_by}
@@ -34,7 +34,7 @@ cmac-lanes n = cond_both (n == 10) kind.Cmac128 kind.Cmac256 (λ k. AES_LANES �
 
 -- ---- the authentications of each kind of hashes
 
-pub sha1-serves : (a : AuthClass) → auth_stage_by a ≡ stage.Lane kind.HmacSha1 → IsTrue (serves_lanes_class sha1_chaining a)
+pub sha1-serves : (a : AuthClass) → auth_stage_by a ≡ stage.Lane kind.HmacSha1 → IsTrue (serves_lanes_class sha1_hashing a)
 sha1-serves (class.Hmac Sha1) h = refl
 sha1-serves (class.Hmac _) h = absurd (cc)
 sha1-serves (class.Plain Sha1) h = refl
@@ -45,7 +45,7 @@ sha1-serves (class.Cmac Aes128) h = absurd (cc)
 sha1-serves (class.Cmac _) h = absurd (cc)
 sha1-serves _ h = absurd (cc)
 
-pub sha256-serves : (a : AuthClass) → auth_stage_by a ≡ stage.Lane kind.HmacSha256 → IsTrue (serves_lanes_class sha256_chaining a)
+pub sha256-serves : (a : AuthClass) → auth_stage_by a ≡ stage.Lane kind.HmacSha256 → IsTrue (serves_lanes_class sha256_hashing a)
 sha256-serves (class.Hmac Sha224) h = refl
 sha256-serves (class.Hmac Sha256) h = refl
 sha256-serves (class.Hmac _) h = absurd (cc)
@@ -59,7 +59,7 @@ sha256-serves (class.Cmac Aes128) h = absurd (cc)
 sha256-serves (class.Cmac _) h = absurd (cc)
 sha256-serves _ h = absurd (cc)
 
-pub sha512-serves : (a : AuthClass) → auth_stage_by a ≡ stage.Lane kind.HmacSha512 → IsTrue (serves_lanes_class sha512_chaining a)
+pub sha512-serves : (a : AuthClass) → auth_stage_by a ≡ stage.Lane kind.HmacSha512 → IsTrue (serves_lanes_class sha512_hashing a)
 sha512-serves (class.Hmac Sha384) h = refl
 sha512-serves (class.Hmac Sha512) h = refl
 sha512-serves (class.Hmac _) h = absurd (cc)

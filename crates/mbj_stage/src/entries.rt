@@ -59,11 +59,11 @@ pub(crate) fn cmac_entry<const N: usize>(job: &Job, packet: Vec<u8>) -> CmacEntr
 /// The HMAC of a job whose hash is one of `H`, under its key or from its states, or the digest. An HMAC's key that is longer than a
 /// block is hashed as the entry is made.
 pub(crate) fn hmac_entry<H: LaneHash>(job: &Job, packet: Vec<u8>) -> HmacEntry<H>
-    requires serves { IsTrue (serves_lanes H.chaining job.now.auth) }
+    requires serves { IsTrue (serves_lanes H.hashing job.now.auth) }
     requires accepted { verdict_at job.now (length packet.items) ≡ None }
-    ensures rest { result.rest ≡ auth_rounds (class_of job.now.auth) H.chaining.block_bytes job.now.hash_len }
-    ensures packet { (hmac_end H.chaining (end_of (hmac_round H.chaining) hmac_rest result)).packet ≡ packet.items }
-    ensures mac { (hmac_end H.chaining (end_of (hmac_round H.chaining) hmac_rest result)).mac
+    ensures rest { result.rest ≡ auth_rounds (class_of job.now.auth) H.hashing.block_bytes job.now.hash_len }
+    ensures packet { (hmac_end H.hashing (end_of (hmac_round H.hashing) hmac_rest result)).packet ≡ packet.items }
+    ensures mac { (hmac_end H.hashing (end_of (hmac_round H.hashing) hmac_rest result)).mac
         ≡ mac_by (class_of job.now.auth) job.now packet.items }
 {
     let (auth, off, len) = (job.auth, job.hash_off, job.hash_len);
@@ -81,13 +81,13 @@ pub(crate) fn hmac_entry<H: LaneHash>(job: &Job, packet: Vec<u8>) -> HmacEntry<H
 /// The same entry, right in an idle slot.
 pub(crate) fn put_hmac<H: LaneHash>(job: &Job, packet: Vec<u8>, slots: &mut HmacSlots<H>, i: usize)
     requires lane { i < H.LANES }
-    requires serves { IsTrue (serves_lanes H.chaining job.now.auth) }
+    requires serves { IsTrue (serves_lanes H.hashing job.now.auth) }
     requires accepted { verdict_at job.now (length packet.items) ≡ None }
-    ensures put { IsWritten H.LANES i (Some (begun_over H.chaining job.now packet.items)) (slot_in slots.old) (slot_in slots.new) }
-    ensures rest { (begun_over H.chaining job.now packet.items).rest ≡ auth_rounds (class_of job.now.auth) H.chaining.block_bytes job.now.hash_len }
-    ensures packet { (hmac_end H.chaining (end_of (hmac_round H.chaining) hmac_rest (begun_over H.chaining job.now packet.items))).packet
+    ensures put { IsWritten H.LANES i (Some (begun_over H.hashing job.now packet.items)) (slot_in slots.old) (slot_in slots.new) }
+    ensures rest { (begun_over H.hashing job.now packet.items).rest ≡ auth_rounds (class_of job.now.auth) H.hashing.block_bytes job.now.hash_len }
+    ensures packet { (hmac_end H.hashing (end_of (hmac_round H.hashing) hmac_rest (begun_over H.hashing job.now packet.items))).packet
         ≡ packet.items }
-    ensures mac { (hmac_end H.chaining (end_of (hmac_round H.chaining) hmac_rest (begun_over H.chaining job.now packet.items))).mac
+    ensures mac { (hmac_end H.hashing (end_of (hmac_round H.hashing) hmac_rest (begun_over H.hashing job.now packet.items))).mac
         ≡ mac_by (class_of job.now.auth) job.now packet.items }
 {
     let secret = job.auth_key.as_slice();

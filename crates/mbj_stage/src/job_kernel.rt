@@ -222,10 +222,10 @@ pub trait HashKind: LaneHash {
     ghost authenticates: { step_of kind ≡ step.Auth };
 
     /// An authentication whose stage is in these lanes is the digest of one of the hashes, or its HMAC.
-    ghost served: { (a : AuthClass) → auth_stage_by a ≡ stage.Lane kind → IsTrue (serves_lanes_class Self.chaining a) };
+    ghost served: { (a : AuthClass) → auth_stage_by a ≡ stage.Lane kind → IsTrue (serves_lanes_class Self.hashing a) };
 
     /// Its rounds are those over the hashes' blocks.
-    ghost rounds: { (j : Job) → auth_rounds (class_of j.auth) Self.chaining.block_bytes j.hash_len ≡ rounds_of kind j };
+    ghost rounds: { (j : Job) → auth_rounds (class_of j.auth) Self.hashing.block_bytes j.hash_len ≡ rounds_of kind j };
 }
 
 impl HashKind for Sha1Lanes {
@@ -278,7 +278,7 @@ impl<H: HashKind> JobKernel for HmacKernel<H> {
 
     ghost fits = { Unit {0} };
 
-    ghost brings = { hmac_end H.chaining };
+    ghost brings = { hmac_end H.hashing };
 
     fn hand_out(course: &mut Course) -> HmacEntry<H> {
         course.hand_out_hmac()

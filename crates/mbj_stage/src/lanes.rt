@@ -12,7 +12,7 @@ ghost use Rattle.mbj_cbc.specs.Rounds.{round as cbc_round, rest_of as cbc_rest};
 ghost use Rattle.mbj_cmac.specs.Rounds.{round as cmac_round, rest_of as cmac_rest};
 ghost use Rattle.mbj_hmac.specs.Rounds.{round as hmac_round, rest_of as hmac_rest};
 ghost use Rattle.mbj_ccm.specs.Rounds.{round as ccm_round, rest_of as ccm_rest};
-ghost use Rattle.mbj_hmac.specs.Chainings.{sha1_chaining, sha256_chaining, sha512_chaining};
+ghost use Rattle.mbj_hmac.specs.Hashings.{sha1_hashing, sha256_hashing, sha512_hashing};
 ghost use Rattle.mbj_stage.specs.Handing.{IsHandedOut, IsNext, IsOut, taken_back};
 ghost use Rattle.mbj_stage.specs.Ends.{cbc_end, ccm_end, cmac_end, hmac_end};
 
@@ -112,7 +112,7 @@ impl Course {
     /// Hands the packet out in an entry of a digest by SHA-1, or of HMAC with it.
     pub fn hand_out_hmac_sha1(&mut self) -> Hmac1Entry
         requires { IsNext kind.HmacSha1 self.old }
-        ensures { IsHandedOut kind.HmacSha1 result.rest (hmac_end sha1_chaining (end_of (hmac_round sha1_chaining) hmac_rest result))
+        ensures { IsHandedOut kind.HmacSha1 result.rest (hmac_end sha1_hashing (end_of (hmac_round sha1_hashing) hmac_rest result))
             self.new self.old }
     {
         Hmac1Kernel::hand_out(self)
@@ -120,9 +120,9 @@ impl Course {
 
     /// Takes an entry of a digest by SHA-1 back, or of HMAC with it.
     pub fn take_back_hmac_sha1(&mut self, entry: Hmac1Entry)
-        requires out { IsOut kind.HmacSha1 (hmac_end sha1_chaining entry) self.old }
+        requires out { IsOut kind.HmacSha1 (hmac_end sha1_hashing entry) self.old }
         requires done { entry.rest ≡ 0 }
-        ensures { self.new ≡ taken_back (hmac_end sha1_chaining entry) self.old }
+        ensures { self.new ≡ taken_back (hmac_end sha1_hashing entry) self.old }
     {
         Hmac1Kernel::take_back(self, entry);
     }
@@ -130,7 +130,7 @@ impl Course {
     /// Hands the packet out in an entry of a digest by SHA-224 or SHA-256, or of HMAC with one of them.
     pub fn hand_out_hmac_sha256(&mut self) -> Hmac256Entry
         requires { IsNext kind.HmacSha256 self.old }
-        ensures { IsHandedOut kind.HmacSha256 result.rest (hmac_end sha256_chaining (end_of (hmac_round sha256_chaining) hmac_rest result))
+        ensures { IsHandedOut kind.HmacSha256 result.rest (hmac_end sha256_hashing (end_of (hmac_round sha256_hashing) hmac_rest result))
             self.new self.old }
     {
         Hmac256Kernel::hand_out(self)
@@ -138,9 +138,9 @@ impl Course {
 
     /// Takes an entry of a digest by SHA-224 or SHA-256 back, or of HMAC with one of them.
     pub fn take_back_hmac_sha256(&mut self, entry: Hmac256Entry)
-        requires out { IsOut kind.HmacSha256 (hmac_end sha256_chaining entry) self.old }
+        requires out { IsOut kind.HmacSha256 (hmac_end sha256_hashing entry) self.old }
         requires done { entry.rest ≡ 0 }
-        ensures { self.new ≡ taken_back (hmac_end sha256_chaining entry) self.old }
+        ensures { self.new ≡ taken_back (hmac_end sha256_hashing entry) self.old }
     {
         Hmac256Kernel::take_back(self, entry);
     }
@@ -148,7 +148,7 @@ impl Course {
     /// Hands the packet out in an entry of a digest by SHA-384 or SHA-512, or of HMAC with one of them.
     pub fn hand_out_hmac_sha512(&mut self) -> Hmac512Entry
         requires { IsNext kind.HmacSha512 self.old }
-        ensures { IsHandedOut kind.HmacSha512 result.rest (hmac_end sha512_chaining (end_of (hmac_round sha512_chaining) hmac_rest result))
+        ensures { IsHandedOut kind.HmacSha512 result.rest (hmac_end sha512_hashing (end_of (hmac_round sha512_hashing) hmac_rest result))
             self.new self.old }
     {
         Hmac512Kernel::hand_out(self)
@@ -156,9 +156,9 @@ impl Course {
 
     /// Takes an entry of a digest by SHA-384 or SHA-512 back, or of HMAC with one of them.
     pub fn take_back_hmac_sha512(&mut self, entry: Hmac512Entry)
-        requires out { IsOut kind.HmacSha512 (hmac_end sha512_chaining entry) self.old }
+        requires out { IsOut kind.HmacSha512 (hmac_end sha512_hashing entry) self.old }
         requires done { entry.rest ≡ 0 }
-        ensures { self.new ≡ taken_back (hmac_end sha512_chaining entry) self.old }
+        ensures { self.new ≡ taken_back (hmac_end sha512_hashing entry) self.old }
     {
         Hmac512Kernel::take_back(self, entry);
     }

@@ -7,7 +7,7 @@ use Rattle.mbj_types.specs.declared.class.HashName.{HashName}
 use Rattle.mbj_types.specs.declared.class.HashName.TheVariants.{Sha1}
 use Rattle.mbj_hmac.specs.declared.form.Form.TheVariants.{Plain}
 use Rattle.mbj_hmac.specs.Forms.{made_rounds_of}
-use Rattle.mbj_hmac.specs.Rounds.{Chaining, HmacState, block_before, outer_rounds}
+use Rattle.mbj_hmac.specs.Rounds.{Hashing, HmacState, block_before, outer_rounds}
 
 -- an entry that is none
 abbrev pub blank : HmacState
@@ -72,7 +72,7 @@ pub record AreTied (rests turns : List ℕ) (es : List HmacState) : Type 0 where
   pub tied : (i : ℕ) → i < most_lanes → IsTied (lane_at 32 rests i) (lane_at 32 turns i) (entry_in es i)
   pub past : (i : ℕ) → i < most_lanes → length es ≤ i → lane_at 32 rests i ≡ idle
 
-module _ (h : Chaining) where
+module _ (h : Hashing) where
   -- the bits of a block and of a digest behind it, which the padding behind both counts
   abbrev pub IsDigestBits : HashName → ℕ → Type 0
   IsDigestBits a bits = (s : List ℕ) → bits ≡ 8 * (h.block_bytes + length (h.digest a s))

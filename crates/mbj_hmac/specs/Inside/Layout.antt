@@ -7,7 +7,7 @@ use Rattle.mbj_types.specs.declared.class.HashName.{HashName}
 use Rattle.mbj_hmac.specs.declared.form.Form.{Form}
 use Rattle.mbj_hmac.specs.declared.places.Places.{Places}
 use Rattle.mbj_hmac.specs.Forms.{has_pads, made_rounds_of, outer_rounds_of, rounds_in}
-use Rattle.mbj_hmac.specs.Rounds.{Chaining, HmacState, inner_text}
+use Rattle.mbj_hmac.specs.Rounds.{Hashing, HmacState, inner_text}
 
 module _ (b : ℕ) where
   -- the whole blocks of b bytes in a message of n bytes
@@ -47,14 +47,14 @@ place_at b p rest off =
 
 -- what the layout takes for granted of a hash: its blocks have 64 or 128 bytes, its padding is that of FIPS 180-4, behind its digest a
 -- block has room for padding, and a state is stored whole and with nothing lost
-pub record IsStandard (h : Chaining) : Type 0 where
+pub record IsStandard (h : Hashing) : Type 0 where
   pub size : (h.block_bytes ≡ 64) ⊎ (h.block_bytes ≡ 128)
   pub pads : (n : ℕ) → n < 2 ^ 33 → h.padding n ≡ padding_of h.block_bytes n
   pub room : (a : HashName) (s : List ℕ) → length (h.digest a s) + 1 + h.block_bytes / 8 ≤ h.block_bytes
   pub whole : (s : List ℕ) → length (h.stored s) ≡ h.state_bytes
   pub kept : (s block : List ℕ) → h.loaded (h.stored (h.compress s block)) ≡ h.compress s block
 
-module _ (h : Chaining) where
+module _ (h : Hashing) where
   -- an entry as it is seen
   abbrev pub seen : List ℕ → ℕ → List ℕ → List ℕ → List ℕ → HashName → Form → List ℕ → ℕ → ℕ → HmacState
   seen packet rest chain inner start hash form ends off len = record {

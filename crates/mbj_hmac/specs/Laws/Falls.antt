@@ -1,9 +1,9 @@
 -- A law of a kernel of HMAC: a round lowers the rest by one.
 use Rattle.std.proofs.Common.{◌≡◌, ◌-◌, Bool, true, false, refl, ap}
 use Rattle.std.specs.Prelude.{if◌then◌else◌}
-use Rattle.mbj_hmac.specs.Rounds.{Chaining, HmacState, is_turn, turned, round}
+use Rattle.mbj_hmac.specs.Rounds.{Hashing, HmacState, is_turn, turned, round}
 
-module _ (h : Chaining) where
+module _ (h : Hashing) where
   pub turned_rest : (e : HmacState) → (turned h e).rest ≡ e.rest
   turned_rest e = go (is_turn e)
     where

@@ -6,7 +6,7 @@ use Rattle.mbj_types.specs.declared.class.HashName.{HashName}
 use Rattle.mbj_types.specs.declared.class.HashName.TheVariants.{Sha1, Sha224, Sha256, Sha384, Sha512}
 use Rattle.mbj_types.specs.Auths.{compression_of_name, hash_of_name}
 use Rattle.mbj_hmac.specs.Rounds.{chained, compression, hashed}
-use Rattle.mbj_hmac.specs.Chainings.{is_sha256, sha256_initial, sha256_digest, sha256_chaining}
+use Rattle.mbj_hmac.specs.Hashings.{is_sha256, sha256_initial, sha256_digest, sha256_hashing}
 use Rattle.mbj_hmac.specs.Laws.Stored32.{sha256_kept, sha256_whole}
 use Rattle.mbj_hmac.specs.Laws.Padding64.{padding_is}
 use Rattle.mbj_hmac.specs.Laws.Tests.{not_both}
@@ -23,22 +23,22 @@ kept : (s block : List ℕ) → first_words (digest_bytes (compress s block) 8) 
 unfolding compress
 kept s block = sha256_kept s (rounds s (schedule block 48) 64)
 
-pub sha256_standard : IsStandard sha256_chaining
+pub sha256_standard : IsStandard sha256_hashing
 sha256_standard = record { size = inl refl; pads = padding_is; room = room; whole = λ s. sha256_whole s 8; kept = kept }
 
-chained_is : (a : HashName) (p : List ℕ) (n : ℕ) → chained sha256_chaining a p n ≡ hash_after (sha256_initial a) p n
+chained_is : (a : HashName) (p : List ℕ) (n : ℕ) → chained sha256_hashing a p n ≡ hash_after (sha256_initial a) p n
 unfolding hash_after
 chained_is a p zero = refl
 chained_is a p (suc n) = ap (λ s. compress s (take 64 (drop (n * 64) p))) (chained_is a p n)
 
-final_is : (a : HashName) (m : List ℕ) → final_hash (sha256_initial a) m ≡ hashed sha256_chaining a m
+final_is : (a : HashName) (m : List ℕ) → final_hash (sha256_initial a) m ≡ hashed sha256_hashing a m
 final_is a m = sym (chained_is a (padded_message m) (length (padded_message m) / 64))
 
-sha224_is : (m : List ℕ) → sha224 m ≡ sha256_digest Sha224 (hashed sha256_chaining Sha224 m)
+sha224_is : (m : List ℕ) → sha224 m ≡ sha256_digest Sha224 (hashed sha256_hashing Sha224 m)
 unfolding sha224
 sha224_is m = ap (λ s. take 28 (digest_bytes s 8)) (final_is Sha224 m)
 
-sha256_is : (m : List ℕ) → sha256 m ≡ sha256_digest Sha256 (hashed sha256_chaining Sha256 m)
+sha256_is : (m : List ℕ) → sha256 m ≡ sha256_digest Sha256 (hashed sha256_hashing Sha256 m)
 unfolding sha256
 sha256_is m = ap (λ s. digest_bytes s 8) (final_is Sha256 m)
 
@@ -49,14 +49,14 @@ sha256_blocks Sha256 t = refl
 sha256_blocks Sha384 t = absurd (not_both t)
 sha256_blocks Sha512 t = absurd (not_both t)
 
-pub sha256_compressions : (a : HashName) → IsTrue (is_sha256 a) → compression_of_name a ≡ compression sha256_chaining a
+pub sha256_compressions : (a : HashName) → IsTrue (is_sha256 a) → compression_of_name a ≡ compression sha256_hashing a
 sha256_compressions Sha1 t = absurd (not_both t)
 sha256_compressions Sha224 t = refl
 sha256_compressions Sha256 t = refl
 sha256_compressions Sha384 t = absurd (not_both t)
 sha256_compressions Sha512 t = absurd (not_both t)
 
-pub sha256_hashes : (a : HashName) → IsTrue (is_sha256 a) → (m : List ℕ) → (hash_of_name a).digest m ≡ sha256_digest a (hashed sha256_chaining a m)
+pub sha256_hashes : (a : HashName) → IsTrue (is_sha256 a) → (m : List ℕ) → (hash_of_name a).digest m ≡ sha256_digest a (hashed sha256_hashing a m)
 sha256_hashes Sha1 t m = absurd (not_both t)
 sha256_hashes Sha224 t m = sha224_is m
 sha256_hashes Sha256 t m = sha256_is m

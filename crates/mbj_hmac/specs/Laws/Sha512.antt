@@ -9,7 +9,7 @@ use Rattle.mbj_types.specs.declared.class.HashName.{HashName}
 use Rattle.mbj_types.specs.declared.class.HashName.TheVariants.{Sha1, Sha224, Sha256, Sha384, Sha512}
 use Rattle.mbj_types.specs.Auths.{compression_of_name, hash_of_name}
 use Rattle.mbj_hmac.specs.Rounds.{chained, compression, hashed}
-use Rattle.mbj_hmac.specs.Chainings.{is_sha512, sha512_initial, sha512_digest, sha512_chaining}
+use Rattle.mbj_hmac.specs.Hashings.{is_sha512, sha512_initial, sha512_digest, sha512_hashing}
 use Rattle.mbj_hmac.specs.Laws.Tests.{not_both}
 use Rattle.mbj_hmac.specs.Inside.Layout.{IsStandard, fill, tail_blocks, padding_of}
 
@@ -67,22 +67,22 @@ kept : (s block : List ℕ) → first_words (digest_bytes (compress s block) 8) 
 unfolding compress
 kept s block = kept_sum s (rounds s (schedule block 64) 80)
 
-pub sha512_standard : IsStandard sha512_chaining
+pub sha512_standard : IsStandard sha512_hashing
 sha512_standard = record { size = inr refl; pads = pads; room = room; whole = λ s. length-digest_bytes s 8; kept = kept }
 
-chained_is : (a : HashName) (p : List ℕ) (n : ℕ) → chained sha512_chaining a p n ≡ hash_after (sha512_initial a) p n
+chained_is : (a : HashName) (p : List ℕ) (n : ℕ) → chained sha512_hashing a p n ≡ hash_after (sha512_initial a) p n
 unfolding hash_after
 chained_is a p zero = refl
 chained_is a p (suc n) = ap (λ s. compress s (take 128 (drop (n * 128) p))) (chained_is a p n)
 
-final_is : (a : HashName) (m : List ℕ) → final_hash (sha512_initial a) m ≡ hashed sha512_chaining a m
+final_is : (a : HashName) (m : List ℕ) → final_hash (sha512_initial a) m ≡ hashed sha512_hashing a m
 final_is a m = sym (chained_is a (padded_message m) (length (padded_message m) / 128))
 
-sha384_is : (m : List ℕ) → sha384 m ≡ sha512_digest Sha384 (hashed sha512_chaining Sha384 m)
+sha384_is : (m : List ℕ) → sha384 m ≡ sha512_digest Sha384 (hashed sha512_hashing Sha384 m)
 unfolding sha384
 sha384_is m = ap (λ s. take 48 (digest_bytes s 8)) (final_is Sha384 m)
 
-sha512_is : (m : List ℕ) → sha512 m ≡ sha512_digest Sha512 (hashed sha512_chaining Sha512 m)
+sha512_is : (m : List ℕ) → sha512 m ≡ sha512_digest Sha512 (hashed sha512_hashing Sha512 m)
 unfolding sha512
 sha512_is m = ap (λ s. digest_bytes s 8) (final_is Sha512 m)
 
@@ -93,14 +93,14 @@ sha512_blocks Sha256 t = absurd (not_both t)
 sha512_blocks Sha384 t = refl
 sha512_blocks Sha512 t = refl
 
-pub sha512_compressions : (a : HashName) → IsTrue (is_sha512 a) → compression_of_name a ≡ compression sha512_chaining a
+pub sha512_compressions : (a : HashName) → IsTrue (is_sha512 a) → compression_of_name a ≡ compression sha512_hashing a
 sha512_compressions Sha1 t = absurd (not_both t)
 sha512_compressions Sha224 t = absurd (not_both t)
 sha512_compressions Sha256 t = absurd (not_both t)
 sha512_compressions Sha384 t = refl
 sha512_compressions Sha512 t = refl
 
-pub sha512_hashes : (a : HashName) → IsTrue (is_sha512 a) → (m : List ℕ) → (hash_of_name a).digest m ≡ sha512_digest a (hashed sha512_chaining a m)
+pub sha512_hashes : (a : HashName) → IsTrue (is_sha512 a) → (m : List ℕ) → (hash_of_name a).digest m ≡ sha512_digest a (hashed sha512_hashing a m)
 sha512_hashes Sha1 t m = absurd (not_both t)
 sha512_hashes Sha224 t m = absurd (not_both t)
 sha512_hashes Sha256 t m = absurd (not_both t)

@@ -105,15 +105,15 @@ impl Course {
     /// Hands the packet out in an entry of a digest by a hash of `H`, or of its HMAC.
     pub(crate) fn hand_out_hmac<H: LaneHash>(&mut self) -> HmacEntry<H>
         requires next { IsNextStep step.Auth self.old.left }
-        requires serves { IsTrue (serves_lanes H.chaining self.old.job.auth) }
+        requires serves { IsTrue (serves_lanes H.hashing self.old.job.auth) }
         requires here { self.old.out ≡ None }
         ensures out { self.new ≡ handed_out self.old }
-        ensures rest { result.rest ≡ auth_rounds (class_of self.old.job.auth) H.chaining.block_bytes self.old.job.hash_len }
+        ensures rest { result.rest ≡ auth_rounds (class_of self.old.job.auth) H.hashing.block_bytes self.old.job.hash_len }
         ensures some { 1 ≤ result.rest }
-        ensures owed { owed_with (hmac_end H.chaining (end_of (hmac_round H.chaining) hmac_rest result)) self.new ≡ owed self.old }
-        ensures job { without_packet (taken_back (hmac_end H.chaining (end_of (hmac_round H.chaining) hmac_rest result)) self.new).job
+        ensures owed { owed_with (hmac_end H.hashing (end_of (hmac_round H.hashing) hmac_rest result)) self.new ≡ owed self.old }
+        ensures job { without_packet (taken_back (hmac_end H.hashing (end_of (hmac_round H.hashing) hmac_rest result)) self.new).job
             ≡ without_packet self.old.job }
-        ensures length { self.new.out ≡ Some (length (hmac_end H.chaining (end_of (hmac_round H.chaining) hmac_rest result)).packet) }
+        ensures length { self.new.out ≡ Some (length (hmac_end H.hashing (end_of (hmac_round H.hashing) hmac_rest result)).packet) }
     {
         let packet = self.job.packet.take();
         self.out = Some(packet.len());
@@ -124,11 +124,11 @@ impl Course {
     pub(crate) fn hand_into_hmac<H: LaneHash>(&mut self, slots: &mut HmacSlots<H>, i: usize)
         requires lane { i < H.LANES }
         requires next { IsNextStep step.Auth self.old.left }
-        requires serves { IsTrue (serves_lanes H.chaining self.old.job.auth) }
+        requires serves { IsTrue (serves_lanes H.hashing self.old.job.auth) }
         requires here { self.old.out ≡ None }
         ensures out { self.new ≡ handed_out self.old }
-        ensures put { IsWritten H.LANES i (Some (begun_over H.chaining self.old.job self.old.job.packet)) (slot_in slots.old) (slot_in slots.new) }
-        ensures given { GoesOut H.chaining (begun_over H.chaining self.old.job self.old.job.packet) self.new self.old }
+        ensures put { IsWritten H.LANES i (Some (begun_over H.hashing self.old.job self.old.job.packet)) (slot_in slots.old) (slot_in slots.new) }
+        ensures given { GoesOut H.hashing (begun_over H.hashing self.old.job self.old.job.packet) self.new self.old }
     {
         let packet = self.job.packet.take();
         self.out = Some(packet.len());

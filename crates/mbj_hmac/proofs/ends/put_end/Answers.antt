@@ -4,7 +4,7 @@ use Rattle.mbj_hmac.proofs.ends.put_end.Goals as goal
 
 pub put_padding-requires-clause-room : goal.put_padding-requires-clause-room
 put_padding-requires-clause-room g c =
-    let h = g.H.LaneHash.chaining in
+    let h = g.H.LaneHash.hashing in
     let std = g.met.H.LaneHash.standard in
     let packet = c.args.packet.now in
     let off = c.args.off in
@@ -16,7 +16,7 @@ put_padding-requires-clause-room g c =
 
 pub returns-clause-next : goal.returns-clause-next
 returns-clause-next g c =
-    let h = g.H.LaneHash.chaining in
+    let h = g.H.LaneHash.hashing in
     let std = g.met.H.LaneHash.standard in
     let packet = c.args.packet.now in
     let off = c.args.off in
@@ -28,7 +28,7 @@ returns-clause-next g c =
 
 pub returns-clause-written : goal.returns-clause-written
 returns-clause-written g c =
-    let h = g.H.LaneHash.chaining in
+    let h = g.H.LaneHash.hashing in
     let bytes = g.H.LaneHash.ends_bytes in
     let std = g.met.H.LaneHash.standard in
     let packet = c.args.packet.now in

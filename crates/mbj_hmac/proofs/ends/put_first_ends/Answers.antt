@@ -7,7 +7,7 @@ use Rattle.mbj_hmac.proofs.ends.put_first_ends.Goals as goal
 
 pub put-requires-2 : goal.put-requires-2
 put-requires-2 g c =
-    let h = g.H.LaneHash.chaining in
+    let h = g.H.LaneHash.hashing in
     let std = g.met.H.LaneHash.standard in
     let key = c.args.key.now in
     let len = c.args.len in
@@ -16,7 +16,7 @@ put-requires-2 g c =
 
 pub returns-clause-value : goal.returns-clause-value
 returns-clause-value g c =
-    let h = g.H.LaneHash.chaining in
+    let h = g.H.LaneHash.hashing in
     let b : ℕ = h.block_bytes in
     let bytes = g.H.LaneHash.ends_bytes in
     let std = g.met.H.LaneHash.standard in

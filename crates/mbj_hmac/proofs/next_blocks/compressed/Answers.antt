@@ -11,7 +11,7 @@ pass-requires-clause-rests g c i h busy = omega (arith, c.requires.rests i h bus
 pub passes-preserved : goal.passes-preserved
 passes-preserved g c i lt busy =
     let lane = g.H.LaneHash.lane in
-    pass_advanced g.H.LaneHash.chaining c.passes.done (lane c.args.states.now i) (lane c.args.inner.now i) (lane c.passes.states i) (lane c.pass.new.states i)
+    pass_advanced g.H.LaneHash.hashing c.passes.done (lane c.args.states.now i) (lane c.args.inner.now i) (lane c.passes.states i) (lane c.pass.new.states i)
     (entry_in c.args.entries.now i) (c.passes.invariant i lt busy) (c.pass.ensures i lt busy)
 
 pub returns : goal.returns
@@ -19,4 +19,4 @@ returns g c i lt busy =
     let lane = g.H.LaneHash.lane in
     let all : c.passes.done ≡ c.args.m = omega arith in
     c.passes.invariant i lt busy
-    ∙ ap (λ n. (after (compressed_once g.H.LaneHash.chaining) n (seen_at (lane c.args.states.now) (lane c.args.inner.now) c.args.entries.now i)).chain) all
+    ∙ ap (λ n. (after (compressed_once g.H.LaneHash.hashing) n (seen_at (lane c.args.states.now) (lane c.args.inner.now) c.args.entries.now i)).chain) all

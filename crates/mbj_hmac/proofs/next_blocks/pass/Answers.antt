@@ -12,7 +12,7 @@ returns-then-not-has_equal g c i lt busy =
     let lane = g.H.LaneHash.lane in
     let rests = c.args.rests.now in
     let few : i < most_lanes = omega (arith, hash.narrow) in
-    read_advanced g.H.LaneHash.chaining hash.standard (lane c.args.states.now i) (lane c.args.inner.now i) (lane_at 32 rests.bits i) (entry_in c.args.entries.now i)
+    read_advanced g.H.LaneHash.hashing hash.standard (lane c.args.states.now i) (lane c.args.inner.now i) (lane_at 32 rests.bits i) (entry_in c.args.entries.now i)
     (c.requires.digests i few busy) (lane_at 32 rests.left i) (lane_at 32 rests.turns i) c.args.done (lane_at 32 c.outer_left-counts.result i) (lane c.compress.new.states i)
     (c.requires.tied.tied i few) busy (c.requires.rests i few busy) (c.outer_left-counts.ensures i few)
     (λ same. c.has_equal.ensures c.if-not-has_equal.true i few (same ∙ sym (splat_is 16 i (c.args.done + 1) few (omega (arith, c.requires.few)))))
@@ -30,12 +30,12 @@ returns-then-has_other g c i lt busy =
     let within = c.requires.half i lt busy in
     elim (cases_eq k (c.args.done + 1)) [
       | inl same ↦
-          made_advanced g.H.LaneHash.chaining hash.standard (lane c.args.states.now i) (lane c.args.inner.now i) (lane_at 32 rests.bits i) e has
+          made_advanced g.H.LaneHash.hashing hash.standard (lane c.args.states.now i) (lane c.args.inner.now i) (lane_at 32 rests.bits i) e has
           (lane_at 32 rests.left i) (lane_at 32 rests.turns i) c.args.done k (lane c.compress_mixed.new.states i)
           (c.requires.tied.tied i few) busy (c.requires.rests i few busy) (c.outer_left-counts.ensures i few)
           same (c.compress_mixed.ensures.digests i lt within same e.hash has.served has.bits)
       | inr apart ↦
-          read_advanced g.H.LaneHash.chaining hash.standard (lane c.args.states.now i) (lane c.args.inner.now i) (lane_at 32 rests.bits i) e has
+          read_advanced g.H.LaneHash.hashing hash.standard (lane c.args.states.now i) (lane c.args.inner.now i) (lane_at 32 rests.bits i) e has
           (lane_at 32 rests.left i) (lane_at 32 rests.turns i) c.args.done k (lane c.compress_mixed.new.states i)
           (c.requires.tied.tied i few) busy (c.requires.rests i few busy) (c.outer_left-counts.ensures i few)
           apart (c.compress_mixed.ensures.blocks i lt within apart)
@@ -49,7 +49,7 @@ returns-else-has_other g c i lt busy =
     let few : i < most_lanes = omega (arith, hash.narrow) in
     let has = c.requires.digests i few busy in
     let e = entry_in c.args.entries.now i in
-    made_advanced g.H.LaneHash.chaining hash.standard (lane c.args.states.now i) (lane c.args.inner.now i) (lane_at 32 rests.bits i) e has
+    made_advanced g.H.LaneHash.hashing hash.standard (lane c.args.states.now i) (lane c.args.inner.now i) (lane_at 32 rests.bits i) e has
     (lane_at 32 rests.left i) (lane_at 32 rests.turns i) c.args.done (lane_at 32 c.outer_left-counts.result i) (lane c.compress_digests.new.states i)
     (c.requires.tied.tied i few) busy (c.requires.rests i few busy) (c.outer_left-counts.ensures i few)
     (c.has_other.ensures c.if-has_other.false i few busy)

@@ -2,7 +2,7 @@ use Rattle.std.proofs.Common.{◌≡◌, ℕ, ◌^◌, ◌<◌, replicate, slice
 use Rattle.mbj_types.specs.Lanes.{lane_at, lane_at-lt}
 use Rattle.mbj_sha_lanes.specs.Words.{words64}
 use Rattle.mbj_sha_lanes.proofs.EightWords.{eight_at}
-use Rattle.mbj_hmac.specs.Chainings.{sha512_chaining}
+use Rattle.mbj_hmac.specs.Hashings.{sha512_hashing}
 use Rattle.mbj_hmac.specs.Inside.Layout.{digest_block}
 use Rattle.mbj_hmac.proofs.DigestWords.{sha512_block}
 use Rattle.mbj_hmac.proofs.Vectors.{splat64_is}
@@ -22,7 +22,7 @@ returns-clause-lanes c i h a served bits =
     let seventh = c.where_equal-seventh.ensures i h ∙ ap₂ (λ m x. cond (eqb n m) (at 7) x) full zero in
     let eighth = c.where_equal-eighth.ensures i h
     ∙ ap₂ (λ m x. cond (eqb n m) x (lane_at 64 (replicate 8 0) i)) full one ∙ ap (λ x. cond (eqb n 1536) 0x8000000000000000 x) zero in
-    ap (λ s. words64 (digest_block sha512_chaining a s)) (eight_at (lane_at 64) inner i c.told-inner)
+    ap (λ s. words64 (digest_block sha512_hashing a s)) (eight_at (lane_at 64) inner i c.told-inner)
     ∙ sha512_block (at 0) (at 1) (at 2) (at 3) (at 4) (at 5) (at 6) (at 7) (fits 0) (fits 1) (fits 2) (fits 3) (fits 4) (fits 5) (fits 6) (fits 7)
     a n (lane_at 64 c.where_equal-sixth.result i) (lane_at 64 c.where_equal-seventh.result i) (lane_at 64 c.where_equal-eighth.result i) (lane_at 64 (replicate 8 0) i)
     served (λ s. same ∙ bits s) sixth seventh eighth zero

@@ -19,7 +19,7 @@ use Rattle.mbj_stage.proofs.entries.hmac_entry.Goals as goal
 
 pub new-requires-clause-auth : goal.new-requires-clause-auth
 new-requires-clause-auth g c =
-    keyed-served g.H.LaneHash.chaining (class_of c.args.job.now.auth) c.in-Hmac.field-0 (sym c.in-Hmac.ensures) c.requires.serves
+    keyed-served g.H.LaneHash.hashing (class_of c.args.job.now.auth) c.in-Hmac.field-0 (sym c.in-Hmac.ensures) c.requires.serves
 
 pub new-requires-clause-range : goal.new-requires-clause-range
 new-requires-clause-range g c =
@@ -28,12 +28,12 @@ new-requires-clause-range g c =
 pub returns-in-Hmac-clause-rest : goal.returns-in-Hmac-clause-rest
 returns-in-Hmac-clause-rest g c =
     let j : Job = c.args.job.now in
-    c.new.ensures.rest ∙ ap (λ (a : AuthClass). auth_rounds a g.H.LaneHash.chaining.block_bytes j.hash_len) c.in-Hmac.ensures
+    c.new.ensures.rest ∙ ap (λ (a : AuthClass). auth_rounds a g.H.LaneHash.hashing.block_bytes j.hash_len) c.in-Hmac.ensures
 
 pub returns-in-Hmac-clause-mac : goal.returns-in-Hmac-clause-mac
 returns-in-Hmac-clause-mac g c =
     let j : Job = c.args.job.now in
-    let h = g.H.LaneHash.chaining in
+    let h = g.H.LaneHash.hashing in
     let p : List ℕ = c.args.packet.items in
     let end : HmacState = end_of (round h) rest_of c.new.result in
     let OfKey : List ℕ → Type 0 = λ key. IfSome (hash_of j.auth) (λ x. h.digest end.hash end.chain ≡ hmac x key (hash_range j p)) in
@@ -44,7 +44,7 @@ returns-in-Hmac-clause-mac g c =
 
 pub new_plain-requires-clause-auth : goal.new_plain-requires-clause-auth
 new_plain-requires-clause-auth g c =
-    plain-served g.H.LaneHash.chaining (class_of c.args.job.now.auth) c.in-Plain.field-0 (sym c.in-Plain.ensures) c.requires.serves
+    plain-served g.H.LaneHash.hashing (class_of c.args.job.now.auth) c.in-Plain.field-0 (sym c.in-Plain.ensures) c.requires.serves
 
 pub new_plain-requires-clause-range : goal.new_plain-requires-clause-range
 new_plain-requires-clause-range g c =
@@ -53,12 +53,12 @@ new_plain-requires-clause-range g c =
 pub returns-in-Plain-clause-rest : goal.returns-in-Plain-clause-rest
 returns-in-Plain-clause-rest g c =
     let j : Job = c.args.job.now in
-    c.new_plain.ensures.rest ∙ ap (λ (a : AuthClass). auth_rounds a g.H.LaneHash.chaining.block_bytes j.hash_len) c.in-Plain.ensures
+    c.new_plain.ensures.rest ∙ ap (λ (a : AuthClass). auth_rounds a g.H.LaneHash.hashing.block_bytes j.hash_len) c.in-Plain.ensures
 
 pub returns-in-Plain-clause-mac : goal.returns-in-Plain-clause-mac
 returns-in-Plain-clause-mac g c =
     let j : Job = c.args.job.now in
-    let h = g.H.LaneHash.chaining in
+    let h = g.H.LaneHash.hashing in
     let p : List ℕ = c.args.packet.items in
     let end : HmacState = end_of (round h) rest_of c.new_plain.result in
     plain_is_mac (class_of j.auth) c.in-Plain.field-0 j p (h.digest end.hash end.chain) (sym c.in-Plain.ensures) c.new_plain.ensures.digest
@@ -67,7 +67,7 @@ returns-in-Plain-clause-mac g c =
 
 pub new_from_states-requires-clause-auth : goal.new_from_states-requires-clause-auth
 new_from_states-requires-clause-auth g c =
-    states-served g.H.LaneHash.chaining (class_of c.args.job.now.auth) c.in-States.field-0 (sym c.in-States.ensures) c.requires.serves
+    states-served g.H.LaneHash.hashing (class_of c.args.job.now.auth) c.in-States.field-0 (sym c.in-States.ensures) c.requires.serves
 
 pub new_from_states-requires-clause-states : goal.new_from_states-requires-clause-states
 new_from_states-requires-clause-states g c =
@@ -84,12 +84,12 @@ new_from_states-requires-clause-range g c =
 pub returns-in-States-clause-rest : goal.returns-in-States-clause-rest
 returns-in-States-clause-rest g c =
     let j : Job = c.args.job.now in
-    c.new_from_states.ensures.rest ∙ ap (λ (a : AuthClass). auth_rounds a g.H.LaneHash.chaining.block_bytes j.hash_len) c.in-States.ensures
+    c.new_from_states.ensures.rest ∙ ap (λ (a : AuthClass). auth_rounds a g.H.LaneHash.hashing.block_bytes j.hash_len) c.in-States.ensures
 
 pub returns-in-States-clause-mac : goal.returns-in-States-clause-mac
 returns-in-States-clause-mac g c =
     let j : Job = c.args.job.now in
-    let h = g.H.LaneHash.chaining in
+    let h = g.H.LaneHash.hashing in
     let p : List ℕ = c.args.packet.items in
     let end : HmacState = end_of (round h) rest_of c.new_from_states.result in
     let OfKey : List ℕ → Type 0 = λ key. IfSome (states_hash_of j.auth) (λ k. h.digest end.hash end.chain ≡ hmac_from_states k key (hash_range j p)) in

@@ -24,18 +24,18 @@ put_job-requires-clause-states g c =
 pub put_job-requires-clause-range : goal.put_job-requires-clause-range
 put_job-requires-clause-range g c =
     let j : Job = c.args.job.now in
-    (accepted j (length c.args.packet.items) c.requires.accepted).hash_range (served-range g.H.LaneHash.chaining (class_of j.auth) c.requires.serves)
+    (accepted j (length c.args.packet.items) c.requires.accepted).hash_range (served-range g.H.LaneHash.hashing (class_of j.auth) c.requires.serves)
 
 pub returns-clause-put : goal.returns-clause-put
 returns-clause-put g c =
     let j : Job = c.args.job.now in
-    subst (λ (key : List ℕ). IsWritten g.H.LaneHash.LANES c.args.i (Some (begun g.H.LaneHash.chaining (class_of j.auth) key c.args.packet.items j.hash_off j.hash_len))
+    subst (λ (key : List ℕ). IsWritten g.H.LaneHash.LANES c.args.i (Some (begun g.H.LaneHash.hashing (class_of j.auth) key c.args.packet.items j.hash_off j.hash_len))
     (slot_in c.args.slots.now) (slot_in c.put_job.new.self)) c.as_slice-secret.ensures c.put_job.ensures.put
 
 pub returns-clause-rest : goal.returns-clause-rest
 returns-clause-rest g c =
     let j : Job = c.args.job.now in
-    let h = g.H.LaneHash.chaining in
+    let h = g.H.LaneHash.hashing in
     let p : List ℕ = c.args.packet.items in
     let begins : Begins h (class_of j.auth) j.auth_key p j.hash_off j.hash_len (begun_over h j p) =
     subst (λ (key : List ℕ). Begins h (class_of j.auth) key p j.hash_off j.hash_len (begun h (class_of j.auth) key p j.hash_off j.hash_len)) c.as_slice-secret.ensures c.put_job.ensures.begins in
@@ -44,7 +44,7 @@ returns-clause-rest g c =
 pub returns-clause-packet : goal.returns-clause-packet
 returns-clause-packet g c =
     let j : Job = c.args.job.now in
-    let h = g.H.LaneHash.chaining in
+    let h = g.H.LaneHash.hashing in
     let p : List ℕ = c.args.packet.items in
     let begins : Begins h (class_of j.auth) j.auth_key p j.hash_off j.hash_len (begun_over h j p) =
     subst (λ (key : List ℕ). Begins h (class_of j.auth) key p j.hash_off j.hash_len (begun h (class_of j.auth) key p j.hash_off j.hash_len)) c.as_slice-secret.ensures c.put_job.ensures.begins in
@@ -53,7 +53,7 @@ returns-clause-packet g c =
 pub returns-clause-mac : goal.returns-clause-mac
 returns-clause-mac g c =
     let j : Job = c.args.job.now in
-    let h = g.H.LaneHash.chaining in
+    let h = g.H.LaneHash.hashing in
     let p : List ℕ = c.args.packet.items in
     let begins : Begins h (class_of j.auth) j.auth_key p j.hash_off j.hash_len (begun_over h j p) =
     subst (λ (key : List ℕ). Begins h (class_of j.auth) key p j.hash_off j.hash_len (begun h (class_of j.auth) key p j.hash_off j.hash_len)) c.as_slice-secret.ensures c.put_job.ensures.begins in

@@ -9,7 +9,7 @@ use Rattle.mbj_hmac.proofs.entry.HmacEntry.block.Goals as goal
 
 pub place-at-requires-clause-few : goal.place-at-requires-clause-few
 place-at-requires-clause-few g c =
-    let h = g.H.LaneHash.chaining in
+    let h = g.H.LaneHash.hashing in
     let words = g.H.LaneHash.words in
     let f = c.self.inside in
     omega (
@@ -20,11 +20,11 @@ place-at-requires-clause-few g c =
 
 pub overflow_add-result : goal.overflow_add-result
 overflow_add-result g c =
-    omega (arith, c.place-at.ensures.few, c.block_bytes-block.ensures, (size_range g.H.LaneHash.chaining.block_bytes g.met.H.LaneHash.standard.size).1)
+    omega (arith, c.place-at.ensures.few, c.block_bytes-block.ensures, (size_range g.H.LaneHash.hashing.block_bytes g.met.H.LaneHash.standard.size).1)
 
 pub slice_bounds-result-end : goal.slice_bounds-result-end
 slice_bounds-result-end g c =
-    let h = g.H.LaneHash.chaining in
+    let h = g.H.LaneHash.hashing in
     let words = g.H.LaneHash.words in
     let bytes = g.H.LaneHash.ends_bytes in
     let f = c.self.inside in
@@ -40,7 +40,7 @@ slice_bounds-result-end g c =
 
 pub returns-clause-block : goal.returns-clause-block
 returns-clause-block g c =
-    let h = g.H.LaneHash.chaining in
+    let h = g.H.LaneHash.hashing in
     let words = g.H.LaneHash.words in
     let bytes = g.H.LaneHash.ends_bytes in
     let f = c.self.inside in

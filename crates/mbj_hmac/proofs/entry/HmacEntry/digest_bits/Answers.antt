@@ -7,7 +7,7 @@ use Rattle.mbj_hmac.proofs.entry.HmacEntry.digest_bits.Goals as goal
 
 pub returns : goal.returns
 returns g c =
-    let h = g.H.LaneHash.chaining in
+    let h = g.H.LaneHash.hashing in
     let words = g.H.LaneHash.words in
     let bytes = g.H.LaneHash.ends_bytes in
     let f = c.self.inside in

@@ -11,13 +11,13 @@ use Rattle.mbj_hmac.proofs.entry.HmacEntry.new_from_states.Goals as goal
 
 pub refill-requires-clause-serves : goal.refill-requires-clause-serves
 refill-requires-clause-serves g c =
-    let h = g.H.LaneHash.chaining in
+    let h = g.H.LaneHash.hashing in
     let k = states_name h (class_of c.args.auth) c.requires.auth in
     states_serve h k.0 k.2 (class_of c.args.auth) k.1
 
 pub returns-clause-start : goal.returns-clause-start
 returns-clause-start g c =
-    let h = g.H.LaneHash.chaining in
+    let h = g.H.LaneHash.hashing in
     let key : List ℕ = c.args.states.now in
     let packet : List ℕ = c.args.packet.items in
     let k = states_name h (class_of c.args.auth) c.requires.auth in
@@ -26,14 +26,14 @@ returns-clause-start g c =
 
 pub returns-clause-rest : goal.returns-clause-rest
 returns-clause-rest g c =
-    let h = g.H.LaneHash.chaining in
+    let h = g.H.LaneHash.hashing in
     let key : List ℕ = c.args.states.now in
     let k = states_name h (class_of c.args.auth) c.requires.auth in
     ap (λ (e : HmacState). e.rest) (c.refill.ensures ∙ ap (λ (x : AuthClass). begun h x key c.args.packet.items c.args.off c.args.len) k.1)
 
 pub returns-clause-packet : goal.returns-clause-packet
 returns-clause-packet g c =
-    let h = g.H.LaneHash.chaining in
+    let h = g.H.LaneHash.hashing in
     let hash = g.met.H.LaneHash in
     let key : List ℕ = c.args.states.now in
     let packet : List ℕ = c.args.packet.items in
@@ -44,7 +44,7 @@ returns-clause-packet g c =
 
 pub returns-clause-tag : goal.returns-clause-tag
 returns-clause-tag g c =
-    let h = g.H.LaneHash.chaining in
+    let h = g.H.LaneHash.hashing in
     let hash = g.met.H.LaneHash in
     let key : List ℕ = c.args.states.now in
     let packet : List ℕ = c.args.packet.items in

@@ -11,19 +11,19 @@ use Rattle.mbj_hmac.proofs.entry.HmacEntry.new_plain.Goals as goal
 
 pub refill-requires-clause-serves : goal.refill-requires-clause-serves
 refill-requires-clause-serves g c =
-    let h = g.H.LaneHash.chaining in
+    let h = g.H.LaneHash.hashing in
     let k = plain_name h (class_of c.args.auth) c.requires.auth in
     plain_serves h k.0 k.2 (class_of c.args.auth) k.1
 
 pub refill-requires-clause-states : goal.refill-requires-clause-states
 refill-requires-clause-states g c =
-    let k = plain_name g.H.LaneHash.chaining (class_of c.args.auth) c.requires.auth in
+    let k = plain_name g.H.LaneHash.hashing (class_of c.args.auth) c.requires.auth in
     let none : List ℕ = [] in
     subst (λ (x : AuthClass). IfSome (states_hash_in x) (λ n. length none ≡ 2 * n.state_bytes)) (sym k.1) tt
 
 pub returns-clause-start : goal.returns-clause-start
 returns-clause-start g c =
-    let h = g.H.LaneHash.chaining in
+    let h = g.H.LaneHash.hashing in
     let key : List ℕ = [] in
     let packet : List ℕ = c.args.packet.items in
     let k = plain_name h (class_of c.args.auth) c.requires.auth in
@@ -32,14 +32,14 @@ returns-clause-start g c =
 
 pub returns-clause-rest : goal.returns-clause-rest
 returns-clause-rest g c =
-    let h = g.H.LaneHash.chaining in
+    let h = g.H.LaneHash.hashing in
     let key : List ℕ = [] in
     let k = plain_name h (class_of c.args.auth) c.requires.auth in
     ap (λ (e : HmacState). e.rest) (c.refill.ensures ∙ ap (λ (x : AuthClass). begun h x key c.args.packet.items c.args.off c.args.len) k.1)
 
 pub returns-clause-packet : goal.returns-clause-packet
 returns-clause-packet g c =
-    let h = g.H.LaneHash.chaining in
+    let h = g.H.LaneHash.hashing in
     let hash = g.met.H.LaneHash in
     let key : List ℕ = [] in
     let packet : List ℕ = c.args.packet.items in
@@ -50,7 +50,7 @@ returns-clause-packet g c =
 
 pub returns-clause-digest : goal.returns-clause-digest
 returns-clause-digest g c =
-    let h = g.H.LaneHash.chaining in
+    let h = g.H.LaneHash.hashing in
     let hash = g.met.H.LaneHash in
     let key : List ℕ = [] in
     let packet : List ℕ = c.args.packet.items in

@@ -8,7 +8,7 @@ use Rattle.mbj_hmac.proofs.entry.HmacEntry.start_keyed.Goals as goal
 
 pub invariant_of-self : goal.invariant_of-self
 invariant_of-self g c =
-    let h = g.H.LaneHash.chaining in
+    let h = g.H.LaneHash.hashing in
     let std = g.met.H.LaneHash.standard in
     let a = c.args.hash in
     let key = c.args.key.now in
@@ -34,7 +34,7 @@ invariant_of-self g c =
 
 pub returns-clause-start : goal.returns-clause-start
 returns-clause-start g c =
-    let h = g.H.LaneHash.chaining in
+    let h = g.H.LaneHash.hashing in
     let std = g.met.H.LaneHash.standard in
     let a = c.args.hash in
     let key = c.args.key.now in

@@ -9,7 +9,7 @@ put_plain_ends-requires-clause-whole g c = c.self.invariant.0.3
 
 pub invariant_of-self : goal.invariant_of-self
 invariant_of-self g c =
-    let h = g.H.LaneHash.chaining in
+    let h = g.H.LaneHash.hashing in
     let packet = c.args.packet.items in
     let off = c.args.off in
     let len = c.args.len in
@@ -22,7 +22,7 @@ invariant_of-self g c =
 
 pub returns : goal.returns
 returns g c =
-    let h = g.H.LaneHash.chaining in
+    let h = g.H.LaneHash.hashing in
     let packet = c.args.packet.items in
     let off = c.args.off in
     let len = c.args.len in

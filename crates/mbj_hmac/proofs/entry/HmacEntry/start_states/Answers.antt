@@ -8,7 +8,7 @@ put_states_ends-requires-clause-whole g c = c.self.invariant.0.3
 
 pub invariant_of-self : goal.invariant_of-self
 invariant_of-self g c =
-    let h = g.H.LaneHash.chaining in
+    let h = g.H.LaneHash.hashing in
     let words = g.H.LaneHash.words in
     let off = c.args.off in
     let len = c.args.len in
@@ -22,6 +22,6 @@ invariant_of-self g c =
 pub returns : goal.returns
 returns g c =
     let words = g.H.LaneHash.words in
-    states_seen g.H.LaneHash.chaining g.met.H.LaneHash.standard c.args.packet.items c.args.off c.args.len c.args.hash
+    states_seen g.H.LaneHash.hashing g.met.H.LaneHash.standard c.args.packet.items c.args.off c.args.len c.args.hash
     (g.H.LaneHash.ends_bytes c.put_states_ends.new.ends) (words c.args.inner) (words c.zeros-self-inside.result) (words c.args.outer)
     c.states_rounds-self-inside.result c.states_rounds-self-inside.ensures c.zeros-self-inside.ensures

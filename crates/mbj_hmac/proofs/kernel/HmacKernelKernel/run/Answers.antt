@@ -18,7 +18,7 @@ run-requires-clause-rests g c i h busy =
 pub returns : goal.returns
 returns g c =
     let es = c.args.entries.now in
-    let advanced = after (round g.H.LaneHash.chaining) c.args.m in
+    let advanced = after (round g.H.LaneHash.hashing) c.args.m in
     let size : length c.give_back.new.entries ≡ length es = omega (arith, c.give_back.auto.entries, c.run.auto.entries) in
     all_changed advanced es c.give_back.new.entries size (λ i lt.
     let few : i < most_lanes = omega (arith, c.requires.lanes, g.met.H.LaneHash.narrow) in

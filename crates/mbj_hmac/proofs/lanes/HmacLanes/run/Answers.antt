@@ -46,7 +46,7 @@ loop-left-smaller g c =
 
 pub loop-left-preserved : goal.loop-left-preserved
 loop-left-preserved g c =
-    let h = g.H.LaneHash.chaining in
+    let h = g.H.LaneHash.hashing in
     let lane = g.H.LaneHash.lane in
     let m = c.args.m in
     let left = c.loop-left.left in
@@ -95,7 +95,7 @@ returns-clause-advanced g c i h busy =
     let self = c.args.self.now in
     let all : c.args.m - c.loop-left.left ≡ c.args.m = omega arith in
     c.loop-left.invariant.advanced i h busy
-    ∙ ap (λ n. after (round g.H.LaneHash.chaining) n (seen_at (lane self.states) (lane self.inner) c.args.entries.now i)) all
+    ∙ ap (λ n. after (round g.H.LaneHash.hashing) n (seen_at (lane self.states) (lane self.inner) c.args.entries.now i)) all
 
 pub returns-clause-rests : goal.returns-clause-rests
 returns-clause-rests g c i h =

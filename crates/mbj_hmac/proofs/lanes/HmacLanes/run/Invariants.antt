@@ -9,11 +9,11 @@ abbrev pub invariant-loop-left : goal.invariant-loop-left
 invariant-loop-left g l = record {
   within : l.left ≤ l.m;
   tied : AreTied l.self.rests.left l.self.rests.turns l.entries;
-  ready : AreReady g.H.LaneHash.chaining (g.H.LaneHash.lane l.self.starts) l.self.rests.bits l.self.rests.left l.entries;
+  ready : AreReady g.H.LaneHash.hashing (g.H.LaneHash.lane l.self.starts) l.self.rests.bits l.self.rests.left l.entries;
   rests : (i : ℕ) → i < most_lanes → lane_at 32 l.self.rests.left i ≡ lowered (l.m - l.left) (lane_at 32 l.initial.self.rests.left i);
   advanced : (i : ℕ) → i < most_lanes → lane_at 32 l.initial.self.rests.left i < idle
       → seen_at (g.H.LaneHash.lane l.self.states) (g.H.LaneHash.lane l.self.inner) l.entries i
-      ≡ after (round g.H.LaneHash.chaining) (l.m - l.left)
+      ≡ after (round g.H.LaneHash.hashing) (l.m - l.left)
       (seen_at (g.H.LaneHash.lane l.initial.self.states) (g.H.LaneHash.lane l.initial.self.inner) l.initial.entries i);
 }
 

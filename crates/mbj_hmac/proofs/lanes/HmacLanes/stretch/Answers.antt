@@ -26,7 +26,7 @@ returns-clause-ready g c =
     let self = c.args.self.now in
     let rests = self.rests in
     rw c.go_on.ensures
-    (all_ready g.H.LaneHash.chaining c.args.m (g.H.LaneHash.lane self.starts) rests.bits rests.left c.lowered-self.result rests.turns c.args.entries.now
+    (all_ready g.H.LaneHash.hashing c.args.m (g.H.LaneHash.lane self.starts) rests.bits rests.left c.lowered-self.result rests.turns c.args.entries.now
     c.requires.tied (returns-clause-rests g c) c.requires.ready)
 
 pub returns-clause-advanced : goal.returns-clause-advanced
@@ -36,6 +36,6 @@ returns-clause-advanced g c i h busy =
     let lane = g.H.LaneHash.lane in
     let es = c.args.entries.now in
     let inside : i < length es = has_entry rests.left rests.turns es c.requires.tied i h busy in
-    lane_advanced g.H.LaneHash.chaining c.args.m (lane self.states i) (lane self.inner i) (lane c.compressed.new.states i) (entry_in es i) (entry_in c.go_on.new.entries i)
+    lane_advanced g.H.LaneHash.hashing c.args.m (lane self.states i) (lane self.inner i) (lane c.compressed.new.states i) (entry_in es i) (entry_in c.go_on.new.entries i)
     (c.compressed.ensures i (omega (arith, c.requires.few)) busy)
     (ap (λ (xs : List HmacState). entry_in xs i) c.go_on.ensures ∙ entry_in-moved c.args.m es i)

@@ -5,21 +5,21 @@ use Rattle.mbj_hmac.proofs.places.Places.of.Goals as goal
 
 pub overflow_cast-behind : goal.overflow_cast-behind
 overflow_cast-behind g c =
-    omega (arith, c.tail_blocks.ensures, (tail_range g.H.LaneHash.chaining.block_bytes g.met.H.LaneHash.standard.size c.args.len).1)
+    omega (arith, c.tail_blocks.ensures, (tail_range g.H.LaneHash.hashing.block_bytes g.met.H.LaneHash.standard.size c.args.len).1)
 
 pub overflow_add-behind : goal.overflow_add-behind
 overflow_add-behind g c =
     omega (
       arith,
       c.tail_blocks.ensures,
-      (tail_range g.H.LaneHash.chaining.block_bytes g.met.H.LaneHash.standard.size c.args.len).1,
+      (tail_range g.H.LaneHash.hashing.block_bytes g.met.H.LaneHash.standard.size c.args.len).1,
       c.outer_rounds.ensures,
       outer_few c.args.form,
     )
 
 pub overflow_add-result : goal.overflow_add-result
 overflow_add-result g c =
-    let b : ℕ = g.H.LaneHash.chaining.block_bytes in
+    let b : ℕ = g.H.LaneHash.hashing.block_bytes in
     let size = g.met.H.LaneHash.standard.size in
     let few : c.args.len / b < 2 ^ 31 = by_size b size (λ n. c.args.len / n < 2 ^ 31) (omega (arith, c.requires)) (omega (arith, c.requires)) in
     rw c.block_bytes.ensures

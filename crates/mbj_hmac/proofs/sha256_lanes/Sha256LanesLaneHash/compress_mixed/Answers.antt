@@ -1,7 +1,7 @@
 use Rattle.std.proofs.Common.{◌≡◌, true, false, eqb, replicate, sym, ap, ◌∙◌, cond}
 use Rattle.std.proofs.lemmas.Bool.{eq-eqb, ne_eqb}
 use Rattle.mbj_types.specs.Lanes.{lane_at, lane_of}
-use Rattle.mbj_hmac.specs.Chainings.{sha256_chaining}
+use Rattle.mbj_hmac.specs.Hashings.{sha256_hashing}
 use Rattle.mbj_hmac.specs.Inside.Layout.{digest_block}
 use Rattle.mbj_hmac.proofs.Vectors.{splat_is}
 use Rattle.mbj_hmac.proofs.sha256_lanes.Sha256LanesLaneHash.compress_mixed.Goals as goal
@@ -13,7 +13,7 @@ returns-clause-digests g c i lt within same a served bits =
     let made = lane_of (lane_at 32) c.digest_words.result i in
     let read = lane_of (lane_at 32) c.loaded-words.result i in
     let words = c.choose.ensures.chosen i lt ∙ ap (λ t. cond t made read) met in
-    c.compress_words.ensures i (digest_block sha256_chaining a (lane_of (lane_at 32) c.args.inner.now i)) lt within
+    c.compress_words.ensures i (digest_block sha256_hashing a (lane_of (lane_at 32) c.args.inner.now i)) lt within
     (c.digest_words.ensures.lanes i lt a served bits ∙ sym words)
 
 pub returns-clause-blocks : goal.returns-clause-blocks

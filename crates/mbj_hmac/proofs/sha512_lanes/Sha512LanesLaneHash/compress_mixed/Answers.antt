@@ -2,7 +2,7 @@ use Rattle.std.proofs.Common.{◌≡◌, ℕ, List, true, false, eqb, replicate,
 use Rattle.std.proofs.lemmas.Bool.{eq-eqb, ne_eqb}
 use Rattle.mbj_types.specs.Lanes.{lane_at, lane_of}
 use Rattle.mbj_sha512_lanes.proofs.BlockWords.{first_words_is}
-use Rattle.mbj_hmac.specs.Chainings.{sha512_chaining}
+use Rattle.mbj_hmac.specs.Hashings.{sha512_hashing}
 use Rattle.mbj_hmac.specs.Inside.Layout.{digest_block}
 use Rattle.mbj_hmac.proofs.Vectors.{splat64_is}
 use Rattle.mbj_hmac.proofs.sha512_lanes.Sha512LanesLaneHash.compress_mixed.Goals as goal
@@ -15,7 +15,7 @@ returns-clause-digests g c i lt within same a served bits =
     let made = lane_of (lane_at 64) c.digest_words.result i in
     let read = lane_of (lane_at 64) c.block_words-words.result i in
     let words = c.choose.ensures.chosen i lt ∙ ap (λ t. cond t made read) met in
-    let block : List ℕ = digest_block sha512_chaining a (lane_of (lane_at 64) c.args.inner.now i) in
+    let block : List ℕ = digest_block sha512_hashing a (lane_of (lane_at 64) c.args.inner.now i) in
     c.compress_scheduled.ensures.each i block lt (first_words_is block ∙ c.digest_words.ensures.lanes i lt a served bits ∙ sym words)
 
 pub returns-clause-blocks : goal.returns-clause-blocks

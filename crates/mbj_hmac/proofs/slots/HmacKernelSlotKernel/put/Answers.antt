@@ -16,7 +16,7 @@ invariant_of-slots g c =
     let few = in_.few in (
       tied_set old.left old.turns new.left new.turns es i e lt in_.rests in_.turns c.slots.invariant.0 (inr (omega (arith, in_.rest, few), in_.rest, in_.turn)),
       length-set es i e ∙ c.slots.invariant.1,
-      ready_set g.H.LaneHash.chaining (g.H.LaneHash.lane s.lanes.starts) (g.H.LaneHash.lane c.enter.new.self.starts) old.bits new.bits old.left new.left old.turns es i g.H.LaneHash.LANES e
+      ready_set g.H.LaneHash.hashing (g.H.LaneHash.lane s.lanes.starts) (g.H.LaneHash.lane c.enter.new.self.starts) old.bits new.bits old.left new.left old.turns es i g.H.LaneHash.LANES e
           lt (omega (arith, c.slots.invariant.1)) c.slots.invariant.0 in_.rests in_.bits in_.starts c.slots.invariant.2 (λ busy. in_.ready),
     )
 

@@ -30,7 +30,7 @@ invariant_of-slots g c =
     let is : (with_items all c.run.new.entries).items ≡ c.run.new.entries = with_items_is all c.run.new.entries whole in (
       subst (λ (es : List HmacState). AreTied new.rests.left new.rests.turns es) (sym is) c.run.ensures.tied,
       omega (arith, ap length is, c.run.auto.entries, ap length c.deref_mut.ensures.value, c.slots.invariant.1),
-      subst (λ (es : List HmacState). AreReady g.H.LaneHash.chaining (g.H.LaneHash.lane new.starts) new.rests.bits new.rests.left es) (sym is) c.run.ensures.ready,
+      subst (λ (es : List HmacState). AreReady g.H.LaneHash.hashing (g.H.LaneHash.lane new.starts) new.rests.bits new.rests.left es) (sym is) c.run.ensures.ready,
     )
 
 pub returns : goal.returns
@@ -48,5 +48,5 @@ returns g c =
     let is = with_items_is all c.run.new.entries whole in
     let moves = rw c.deref_mut.ensures.value at c.run.ensures.advanced in
     slots_advanced n lane inner rests.left rests.turns es c.args.slots.now c.slots.view_is c.slots.invariant.0 c.slots.invariant.1 g.met.H.LaneHash.narrow
-    (after (round g.H.LaneHash.chaining) c.args.m) c.args.m advanced done c.run.new.self.rests.left (with_items all c.run.new.entries).items
+    (after (round g.H.LaneHash.hashing) c.args.m) c.args.m advanced done c.run.new.self.rests.left (with_items all c.run.new.entries).items
     (λ i h busy. ap (λ (xs : List HmacState). seen_at advanced done xs i) is ∙ moves i h busy) c.run.ensures.rests

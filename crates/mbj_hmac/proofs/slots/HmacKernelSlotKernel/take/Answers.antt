@@ -23,7 +23,7 @@ invariant_of-slots g c =
     let e = c.end.new.self in (
       tied_set old.left old.turns new.left new.turns es i e lt out.rests (λ j h apart. ap (λ (v : List ℕ). lane_at 32 v j) out.turns) c.slots.invariant.0 (inl (out.rest, c.end.ensures.rest)),
       length-set es i e ∙ c.slots.invariant.1,
-      ready_set g.H.LaneHash.chaining (g.H.LaneHash.lane s.lanes.starts) (g.H.LaneHash.lane c.leave.new.self.starts) old.bits new.bits old.left new.left old.turns es i g.H.LaneHash.LANES e
+      ready_set g.H.LaneHash.hashing (g.H.LaneHash.lane s.lanes.starts) (g.H.LaneHash.lane c.leave.new.self.starts) old.bits new.bits old.left new.left old.turns es i g.H.LaneHash.LANES e
           lt (omega (arith, c.slots.invariant.1)) c.slots.invariant.0 out.rests (λ j h apart. ap (λ (v : List ℕ). lane_at 32 v j) out.bits)
           (λ j h apart. ap (λ states. g.H.LaneHash.lane states j) out.starts) c.slots.invariant.2 (λ busy. absurd (omega (arith, out.rest))),
     )

@@ -18,7 +18,7 @@ invariant_of-self g c =
     let few = in_.few in (
       tied_set old.left old.turns new.left new.turns es i e lt in_.rests in_.turns c.self.invariant.0 (inr (omega (arith, in_.rest, few), in_.rest, in_.turn)),
       length-set es i e ∙ c.self.invariant.1,
-      ready_set g.H.LaneHash.chaining (g.H.LaneHash.lane s.lanes.starts) (g.H.LaneHash.lane c.enter.new.self.starts) old.bits new.bits old.left new.left old.turns es i g.H.LaneHash.LANES e
+      ready_set g.H.LaneHash.hashing (g.H.LaneHash.lane s.lanes.starts) (g.H.LaneHash.lane c.enter.new.self.starts) old.bits new.bits old.left new.left old.turns es i g.H.LaneHash.LANES e
           lt (omega (arith, c.self.invariant.1)) c.self.invariant.0 in_.rests in_.bits in_.starts c.self.invariant.2 (λ busy. in_.ready),
     )
 
@@ -50,5 +50,5 @@ returns-clause-put g c =
 pub returns-clause-begins : goal.returns-clause-begins
 returns-clause-begins g c =
     let hash = g.met.H.LaneHash in
-    begins g.H.LaneHash.chaining hash.standard hash.hashes hash.blocks hash.compressions c.args.key.now c.args.packet.items c.args.off c.args.len
+    begins g.H.LaneHash.hashing hash.standard hash.hashes hash.blocks hash.compressions c.args.key.now c.args.packet.items c.args.off c.args.len
     c.requires.range c.ranges.len.fits (class_of c.args.auth) c.requires.serves

@@ -23,7 +23,7 @@ invariant_of-self g c =
     let e = c.end_parts.new.self in (
       tied_set old.left old.turns new.left new.turns es i e lt out.rests (λ j h apart. ap (λ (v : List ℕ). lane_at 32 v j) out.turns) c.self.invariant.0 (inl (out.rest, c.end_parts.ensures.rest)),
       length-set es i e ∙ c.self.invariant.1,
-      ready_set g.H.LaneHash.chaining (g.H.LaneHash.lane s.lanes.starts) (g.H.LaneHash.lane c.leave.new.self.starts) old.bits new.bits old.left new.left old.turns es i g.H.LaneHash.LANES e
+      ready_set g.H.LaneHash.hashing (g.H.LaneHash.lane s.lanes.starts) (g.H.LaneHash.lane c.leave.new.self.starts) old.bits new.bits old.left new.left old.turns es i g.H.LaneHash.LANES e
           lt (omega (arith, c.self.invariant.1)) c.self.invariant.0 out.rests (λ j h apart. ap (λ (v : List ℕ). lane_at 32 v j) out.bits)
           (λ j h apart. ap (λ states. g.H.LaneHash.lane states j) out.starts) c.self.invariant.2 (λ busy. absurd (omega (arith, out.rest))),
     )
@@ -43,7 +43,7 @@ returns-clause-tag g c e there =
     c.args.self.now c.self.view_is c.self.invariant.0 c.self.invariant.1 g.met.H.LaneHash.narrow
     c.args.i c.index_mut-entry.result.now e c.requires.lane c.index_mut-entry.ensures.value there in
     let chain = c.scattered-chain.ensures ∙ ap (λ states. g.H.LaneHash.lane states c.args.i) c.leave.ensures.states in
-    let digest = g.H.LaneHash.chaining.digest in
+    let digest = g.H.LaneHash.hashing.digest in
     c.end_parts.ensures.tag ∙ ap₂ (λ (x : HmacState) k. digest x.hash k) read.0 chain ∙ ap (λ (x : HmacState). digest x.hash x.chain) read.1
 
 pub returns-clause-idle : goal.returns-clause-idle

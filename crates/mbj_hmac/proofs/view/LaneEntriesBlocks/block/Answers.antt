@@ -6,7 +6,7 @@ use Rattle.mbj_hmac.proofs.view.LaneEntriesBlocks.block.Goals as goal
 
 pub returns-else-i-self-clause-block : goal.returns-else-i-self-clause-block
 returns-else-i-self-clause-block g c =
-    let h = g.H.LaneHash.chaining in
+    let h = g.H.LaneHash.hashing in
     let done : ℕ = c.args.self.now.done in
     let none : 0 - done ≡ 0 = omega arith in
     let zeros : block_in h blank done ≡ replicate h.block_bytes 0 = rw none refl in

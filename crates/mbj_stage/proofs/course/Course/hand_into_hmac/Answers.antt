@@ -28,9 +28,9 @@ invariant_of-self g c =
     let left = steps_in f.left in
     let here : f.out ≡ None = subst (λ (v : CourseState). v.out ≡ None) (sym c.self.view_is) c.requires.here in
     let first : IsNextStep step.Auth left = subst (λ (v : CourseState). IsNextStep step.Auth v.left) (sym c.self.view_is) c.requires.next in
-    let serves = subst (λ (v : CourseState). IsTrue (serves_lanes g.H.LaneHash.chaining v.job.auth)) (sym c.self.view_is) c.requires.serves in
+    let serves = subst (λ (v : CourseState). IsTrue (serves_lanes g.H.LaneHash.hashing v.job.auth)) (sym c.self.view_is) c.requires.serves in
     let lane : stage_at f.job left ≢ stage.Now =
-    λ now. hash-in-lanes g.H.LaneHash.chaining (class_of f.job.auth) serves (sym (auth-first f.job left first) ∙ now) in
+    λ now. hash-in-lanes g.H.LaneHash.hashing (class_of f.job.auth) serves (sym (auth-first f.job left first) ∙ now) in
     record {
       sound = sound_out f.job c.take-packet.new.self left f.out f.lengths c.len.result c.self.invariant.sound here (len ∙ ap length c.take-packet.ensures.taken) lane;
       keyed = c.self.invariant.keyed;
@@ -50,7 +50,7 @@ returns-clause-out g c =
 pub returns-clause-put : goal.returns-clause-put
 returns-clause-put g c =
     let f = c.self.inside in
-    let h = g.H.LaneHash.chaining in
+    let h = g.H.LaneHash.hashing in
     let i = c.args.i in
     let old = c.args.slots.now in
     let new = c.put_hmac.new.slots in
@@ -60,7 +60,7 @@ returns-clause-put g c =
 pub returns-clause-given : goal.returns-clause-given
 returns-clause-given g c =
     let f = c.self.inside in
-    let h = g.H.LaneHash.chaining in
+    let h = g.H.LaneHash.hashing in
     let left = steps_in f.left in
     let x : List ℕ = c.take-packet.result.items in
     let len : c.len.result ≡ length x = omega (arith, c.len.ensures, c.take-packet.result.ok) in

@@ -26,9 +26,9 @@ invariant_of-self g c =
     let left = steps_in f.left in
     let here : f.out ≡ None = subst (λ (v : CourseState). v.out ≡ None) (sym c.self.view_is) c.requires.here in
     let first : IsNextStep step.Auth left = subst (λ (v : CourseState). IsNextStep step.Auth v.left) (sym c.self.view_is) c.requires.next in
-    let serves = subst (λ (v : CourseState). IsTrue (serves_lanes g.H.LaneHash.chaining v.job.auth)) (sym c.self.view_is) c.requires.serves in
+    let serves = subst (λ (v : CourseState). IsTrue (serves_lanes g.H.LaneHash.hashing v.job.auth)) (sym c.self.view_is) c.requires.serves in
     let lane : stage_at f.job left ≢ stage.Now =
-    λ now. hash-in-lanes g.H.LaneHash.chaining (class_of f.job.auth) serves (sym (auth-first f.job left first) ∙ now) in
+    λ now. hash-in-lanes g.H.LaneHash.hashing (class_of f.job.auth) serves (sym (auth-first f.job left first) ∙ now) in
     record {
       sound = sound_out f.job c.take-packet.new.self left f.out f.lengths c.len.result c.self.invariant.sound here (len ∙ ap length c.take-packet.ensures.taken) lane;
       keyed = c.self.invariant.keyed;
@@ -48,14 +48,14 @@ returns-clause-out g c =
 pub returns-clause-some : goal.returns-clause-some
 returns-clause-some g c =
     let j = c.self.inside.job in
-    omega (arith, c.hmac_entry.ensures.rest, auth-some (class_of j.auth) g.H.LaneHash.chaining.block_bytes j.hash_len)
+    omega (arith, c.hmac_entry.ensures.rest, auth-some (class_of j.auth) g.H.LaneHash.hashing.block_bytes j.hash_len)
 
 pub returns-clause-owed : goal.returns-clause-owed
 returns-clause-owed g c =
     let f = c.self.inside in
     let len : c.len.result ≡ length c.take-packet.result.items = omega (arith, c.len.ensures, c.take-packet.result.ok) in
     let first : IsNextStep step.Auth (steps_in f.left) = subst (λ (v : CourseState). IsNextStep step.Auth v.left) (sym c.self.view_is) c.requires.next in
-    let e = hmac_end g.H.LaneHash.chaining (end_of (round g.H.LaneHash.chaining) rest_of c.hmac_entry.result) in
+    let e = hmac_end g.H.LaneHash.hashing (end_of (round g.H.LaneHash.hashing) rest_of c.hmac_entry.result) in
     let out : CourseState = going f.lengths (record f.job { packet = c.take-packet.new.self }) f.tag f.reason (steps_in f.left) (Some c.len.result) in
     subst (λ (v : CourseState). owed_with e out ≡ owed v) c.self.view_is
     (mac-out f.lengths f.job c.take-packet.new.self f.tag f.reason (steps_in f.left) f.out c.len.result e c.take-packet.ensures.none
@@ -68,7 +68,7 @@ returns-clause-job g c =
     let f = c.self.inside in
     let len : c.len.result ≡ length c.take-packet.result.items = omega (arith, c.len.ensures, c.take-packet.result.ok) in
     let first : IsNextStep step.Auth (steps_in f.left) = subst (λ (v : CourseState). IsNextStep step.Auth v.left) (sym c.self.view_is) c.requires.next in
-    let e = hmac_end g.H.LaneHash.chaining (end_of (round g.H.LaneHash.chaining) rest_of c.hmac_entry.result) in
+    let e = hmac_end g.H.LaneHash.hashing (end_of (round g.H.LaneHash.hashing) rest_of c.hmac_entry.result) in
     let out : CourseState = going f.lengths (record f.job { packet = c.take-packet.new.self }) f.tag f.reason (steps_in f.left) (Some c.len.result) in
     subst (λ (v : CourseState). without_packet (taken_back e out).job ≡ without_packet v.job) c.self.view_is
     (own-back (going f.lengths f.job f.tag f.reason (steps_in f.left) f.out) out e step.Auth

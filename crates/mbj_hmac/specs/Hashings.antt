@@ -6,7 +6,7 @@ use Rattle.sha2.specs.Sha512 as Sha512
 use Rattle.mbj_types.specs.declared.class.HashName.{HashName}
 use Rattle.mbj_types.specs.declared.class.HashName.TheVariants as hash
 use Rattle.mbj_types.specs.Hashes.{sha1_lengths, sha224_lengths, sha256_lengths, sha384_lengths, sha512_lengths}
-use Rattle.mbj_hmac.specs.Rounds.{Chaining}
+use Rattle.mbj_hmac.specs.Rounds.{Hashing}
 
 -- what a hash that isn't served has is empty, and not looked at
 
@@ -34,8 +34,8 @@ sha1_digest hash.Sha256 s = []
 sha1_digest hash.Sha384 s = []
 sha1_digest hash.Sha512 s = []
 
-abbrev pub sha1_chaining : Chaining
-sha1_chaining = record {
+abbrev pub sha1_hashing : Hashing
+sha1_hashing = record {
   serves = is_sha1;
   block_bytes = sha1_lengths.block;
   padding = Sha1.padding;
@@ -72,8 +72,8 @@ sha256_digest hash.Sha256 s = Sha256.digest_bytes s 8
 sha256_digest hash.Sha384 s = []
 sha256_digest hash.Sha512 s = []
 
-abbrev pub sha256_chaining : Chaining
-sha256_chaining = record {
+abbrev pub sha256_hashing : Hashing
+sha256_hashing = record {
   serves = is_sha256;
   block_bytes = sha256_lengths.block;
   padding = Sha256.padding;
@@ -110,8 +110,8 @@ sha512_digest hash.Sha256 s = []
 sha512_digest hash.Sha384 s = take sha384_lengths.digest (Sha512.digest_bytes s 8)
 sha512_digest hash.Sha512 s = Sha512.digest_bytes s 8
 
-abbrev pub sha512_chaining : Chaining
-sha512_chaining = record {
+abbrev pub sha512_hashing : Hashing
+sha512_hashing = record {
   serves = is_sha512;
   block_bytes = sha512_lengths.block;
   padding = Sha512.padding;
